@@ -1,0 +1,63 @@
+ghost use Rattle.std.specs.Prelude.{◌≡◌, ◌+◌, ◌≤◌, length, drop};
+ghost use Rattle.rm_base.specs.Fields.{number, with_field, ReadsBack, PutsBack};
+
+use byteorder::{BigEndian, ByteOrder};
+
+/// The number in the 2 bytes from `at` on, the highest byte first.
+#[tactic(auto, unfolding(crate::specs::Fields::number))]
+pub fn get_u16(bytes: &[u8], at: usize) -> u16
+    requires { at + 2 ≤ length bytes.now }
+    ensures { result ≡ number 2 (drop at bytes.now) }
+{
+    BigEndian::read_u16(&bytes[at..])
+}
+
+/// The number in the 4 bytes from `at` on, the highest byte first.
+#[tactic(auto, unfolding(crate::specs::Fields::number))]
+pub fn get_u32(bytes: &[u8], at: usize) -> u32
+    requires { at + 4 ≤ length bytes.now }
+    ensures { result ≡ number 4 (drop at bytes.now) }
+{
+    BigEndian::read_u32(&bytes[at..])
+}
+
+/// The number in the 8 bytes from `at` on, the highest byte first.
+#[tactic(auto, unfolding(crate::specs::Fields::number))]
+pub fn get_u64(bytes: &[u8], at: usize) -> u64
+    requires { at + 8 ≤ length bytes.now }
+    ensures { result ≡ number 8 (drop at bytes.now) }
+{
+    BigEndian::read_u64(&bytes[at..])
+}
+
+/// Puts `v` into the 2 bytes from `at` on, the highest byte first.
+pub fn put_u16(bytes: &mut [u8], at: usize, v: u16)
+    requires { at + 2 ≤ length bytes.old }
+    ensures { bytes.new ≡ with_field 2 bytes.old at v }
+{
+    BigEndian::write_u16(&mut bytes[at..], v);
+}
+
+/// Puts `v` into the 4 bytes from `at` on, the highest byte first.
+pub fn put_u32(bytes: &mut [u8], at: usize, v: u32)
+    requires { at + 4 ≤ length bytes.old }
+    ensures { bytes.new ≡ with_field 4 bytes.old at v }
+{
+    BigEndian::write_u32(&mut bytes[at..], v);
+}
+
+/// Puts `v` into the 8 bytes from `at` on, the highest byte first.
+pub fn put_u64(bytes: &mut [u8], at: usize, v: u64)
+    requires { at + 8 ≤ length bytes.old }
+    ensures { bytes.new ≡ with_field 8 bytes.old at v }
+{
+    BigEndian::write_u64(&mut bytes[at..], v);
+}
+
+/// The two laws of a field of `n` bytes: what is read is the number that was put, and putting back
+/// the number that was read leaves the bytes as they were. It does nothing when it is run.
+#[tactic(auto, using(crate::proofs::FieldLaws::reads_back, crate::proofs::FieldLaws::puts_back))]
+pub fn field_laws()
+    ensures reads_back { ReadsBack }
+    ensures puts_back { PutsBack }
+{}
