@@ -10,6 +10,8 @@ mod items;
 mod key_range;
 mod names;
 mod places;
+#[cfg(test)]
+mod tests;
 
 pub use errors::{BadLog, WantOfMemory};
 pub use few::{Few, Full};
