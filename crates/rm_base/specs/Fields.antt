@@ -1,5 +1,7 @@
 -- Numbers of fixed size in bytes, the highest byte first. A list of bytes is a list of numbers below 256.
 use Rattle.std.specs.Prelude.{◌≡◌, ◌≤◌, ◌<◌, ◌+◌, ◌^◌, ℕ, List, ◌++◌, length, take, drop, slice_index}
+use Rattle.std.specs.Ordering.{nat_cmp}
+use Rattle.std.specs.Cmp.Lexicographic.{slice_cmp}
 use Rattle.byteorder.specs.Endian.{big_bytes, big_number}
 
 -- the n bytes of x
@@ -29,3 +31,8 @@ abbrev pub PutsBack : Type 0
 PutsBack =
     (n at : ℕ) (bytes : List ℕ) → AreBytes bytes → at + n ≤ length bytes
     → with_field n bytes at (number n (drop at bytes)) ≡ bytes
+
+-- fields of one size are ordered, byte by byte, as their numbers are
+abbrev pub OrderedAsNumbers : Type 0
+OrderedAsNumbers =
+    (n x y : ℕ) → x < 256 ^ n → y < 256 ^ n → slice_cmp nat_cmp (field n x) (field n y) ≡ nat_cmp x y

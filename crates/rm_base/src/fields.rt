@@ -1,5 +1,5 @@
 ghost use Rattle.std.specs.Prelude.{◌≡◌, ◌+◌, ◌≤◌, length, drop};
-ghost use Rattle.rm_base.specs.Fields.{number, with_field, ReadsBack, PutsBack};
+ghost use Rattle.rm_base.specs.Fields.{number, with_field, ReadsBack, PutsBack, OrderedAsNumbers};
 
 use byteorder::{BigEndian, ByteOrder};
 
@@ -54,10 +54,12 @@ pub fn put_u64(bytes: &mut [u8], at: usize, v: u64)
     BigEndian::write_u64(&mut bytes[at..], v);
 }
 
-/// The two laws of a field of `n` bytes: what is read is the number that was put, and putting back
-/// the number that was read leaves the bytes as they were. It does nothing when it is run.
-#[tactic(auto, using(crate::proofs::FieldLaws::reads_back, crate::proofs::FieldLaws::puts_back))]
+/// The laws of a field of `n` bytes: what is read is the number that was put; putting back the number
+/// that was read leaves the bytes as they were; and fields of one size are ordered, byte by byte, as
+/// their numbers are. It does nothing when it is run.
+#[tactic(auto, using(crate::proofs::FieldLaws::reads_back, crate::proofs::FieldLaws::puts_back, crate::proofs::FieldOrder::ordered_as_numbers))]
 pub fn field_laws()
     ensures reads_back { ReadsBack }
     ensures puts_back { PutsBack }
+    ensures ordered { OrderedAsNumbers }
 {}
