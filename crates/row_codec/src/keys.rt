@@ -1,0 +1,42 @@
+ghost use Rattle.std.specs.Prelude.{◌≡◌, ◌≢◌, ◌≤◌, length, IfOk};
+ghost use Rattle.std.specs.Result.{OkIff};
+ghost use Rattle.row_codec.specs.Keys.{key_bytes, OrderedAsKeys, TellKeysApart};
+
+use crate::TooLarge;
+use rm_base::{Bytes, WantOfMemory, put_u64};
+use sql_values::Value;
+use std::alloc::Global;
+
+/// The most bytes that a key has.
+pub const LONGEST_KEY: usize = 64;
+
+/// The bytes of a key: 8 for an INT, the text's own for a TEXT. Refused exactly past 64 bytes.
+pub fn key_of(alloc: Global, value: &Value) -> Result<Result<Bytes, TooLarge>, WantOfMemory>
+    requires { value.now ≢ Value.Null }
+    ensures { IfOk result (λ key. OkIff key (length (key_bytes value.now) ≤ LONGEST_KEY) (key_bytes value.now)) }
+{
+    let mut key = Bytes::new(alloc);
+    match value {
+        Value::Null => unreachable!(),
+        Value::Int(number) => {
+            let mut bytes = [0u8; 8];
+            put_u64(&mut bytes, 0, number.abs_diff(i64::MIN));
+            key.append(&bytes)?;
+        }
+        Value::Text(text) => {
+            if text.len() > LONGEST_KEY {
+                return Ok(Err(TooLarge));
+            }
+            key.append(text.as_slice())?;
+        }
+    }
+    Ok(Ok(key))
+}
+
+/// Key bytes are ordered as the keys of one sort are, and only equal keys have equal bytes. It does
+/// nothing when it is run.
+#[tactic(auto, using(crate::proofs::KeyLaws::ordered, crate::proofs::KeyLaws::apart))]
+pub fn key_laws()
+    ensures ordered { OrderedAsKeys }
+    ensures apart { TellKeysApart }
+{}

@@ -1,0 +1,21 @@
+//! Rows as the bytes of a leaf item: a key whose bytes are ordered as its values are, and the cells of
+//! the other columns.
+#![tactic(auto)]
+
+mod fitting;
+mod keys;
+mod reading;
+mod spelling;
+#[cfg(test)]
+mod tests;
+
+pub use fitting::fits_schema;
+pub use keys::{LONGEST_KEY, key_laws, key_of};
+pub use reading::{row_laws, row_of};
+pub use spelling::{LARGEST_RECORD, RECORD_OVERHEAD, value_of};
+use thiserror::Error;
+
+/// A key or a row is larger than a leaf item may be.
+#[derive(Clone, Copy, Debug, PartialEq, Eq, Error)]
+#[error("too large")]
+pub struct TooLarge;
