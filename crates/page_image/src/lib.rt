@@ -1,0 +1,12 @@
+//! Pages of 4,096 bytes: a header and a list of items, or a header and a body of fields.
+#![tactic(auto)]
+
+mod kind;
+
+pub use kind::Kind;
+
+/// The bytes of a page.
+pub const PAGE_BYTES: usize = 4096;
+
+/// The bytes of a page's header.
+pub const HEADER_BYTES: usize = 32;
