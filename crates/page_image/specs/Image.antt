@@ -1,5 +1,5 @@
 -- A page as its readers see it, and what each change of a page does to it.
-use Rattle.std.specs.Prelude.{◌≡◌, ◌≢◌, ◌≤◌, ◌<◌, ◌+◌, ◌-◌, ◌*◌, ◌⊎◌, ℕ, Bool, true, false, List, [], ◌++◌, length, take, drop, replicate, insert, remove, sum_by, if◌then◌else◌}
+use Rattle.std.specs.Prelude.{◌≡◌, ◌≢◌, ◌≤◌, ◌<◌, ◌+◌, ◌-◌, ◌*◌, ◌⊎◌, ◌==◌, ℕ, Bool, true, false, List, [], ◌++◌, length, take, drop, replicate, insert, remove, sum_by, if◌then◌else◌}
 use Rattle.page_image.specs.declared.kind.Kind.{Kind}
 use Rattle.page_image.specs.declared.kind.Kind.TheVariants.{Unmade, Meta, Slots, Stamps, Leaf, Inner, Undo}
 use Rattle.page_image.specs.declared.TheConstants.{PAGE_BYTES, HEADER_BYTES}
@@ -14,6 +14,27 @@ pub record Image : Type 0 where
   pub level : ℕ
   pub items : List (List ℕ)
   pub body : List ℕ
+
+-- a kind's number in pages and in redo
+abbrev pub kind_number : Kind → ℕ
+kind_number Unmade = 0
+kind_number Meta = 1
+kind_number Slots = 2
+kind_number Stamps = 3
+kind_number Leaf = 4
+kind_number Inner = 5
+kind_number Undo = 6
+
+-- the kind with that number; numbers past 6 are no kind's, and give `Unmade`
+abbrev pub kind_with : ℕ → Kind
+kind_with n =
+    if n == 1 then Meta
+    else (if n == 2 then Slots
+    else (if n == 3 then Stamps
+    else (if n == 4 then Leaf
+    else (if n == 5 then Inner
+    else (if n == 6 then Undo
+    else Unmade)))))
 
 -- leaf, inner and undo pages have slots
 abbrev pub is_slotted : Kind → Bool
@@ -71,6 +92,10 @@ pub record CanMake (im : Image) (kind : Kind) (level : ℕ) : Type 0 where
   pub fits : LevelFits kind level
   pub from : (im.kind ≡ Unmade) ⊎ (((im.kind ≡ Leaf) ⊎ (im.kind ≡ Inner)) × (im.items ≡ []) × (kind ≡ Inner))
 
+-- so many zero bytes
+unfoldable pub zeros : ℕ → List ℕ
+zeros n = replicate n 0
+
 -- the empty page of that kind
 abbrev pub made : Image → Kind → ℕ → ℕ → Image
 made im kind level lsn =
@@ -82,7 +107,7 @@ made im kind level lsn =
       next = 0;
       level = level;
       items = [];
-      body = if has_body kind then replicate (PAGE_BYTES - HEADER_BYTES) 0 else [];
+      body = if has_body kind then zeros (PAGE_BYTES - HEADER_BYTES) else [];
     }
 
 -- bytes can be patched within the body; `at` counts from the start of the page
