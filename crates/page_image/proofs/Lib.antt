@@ -1,0 +1,3 @@
+pub mod HeaderLaws
+pub mod ItemLaws
+pub mod PageLaws

@@ -1,6 +1,7 @@
 //! Pages of 4,096 bytes: a header and a list of items, or a header and a body of fields.
 #![tactic(auto)]
 
+mod header;
 mod kind;
 
 pub use kind::Kind;
