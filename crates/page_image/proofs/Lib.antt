@@ -1,3 +1,4 @@
 pub mod HeaderLaws
 pub mod ItemLaws
 pub mod PageLaws
+pub mod StepLaws

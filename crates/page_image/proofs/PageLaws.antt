@@ -250,6 +250,18 @@ placed_items im good i within same =
       ∙ ap (λ (q : ℕ). slice_range (page_bytes im) (end_of (page_bytes im) (i + 1)) q) (sym here));
     }
 
+-- the free bytes are those between the slots and the lowest item
+free_back : (im : Image) → IsImage im → (bytes : List ℕ) → image_of bytes ≡ im → number 2 (drop 28 bytes) ≡ cond (is_slotted im.kind) (4096 - length (packed im.items)) 0 → number 2 (drop 2 bytes) ≡ length im.items
+    → number 2 (drop 28 bytes) - (32 + 2 * number 2 (drop 2 bytes)) ≡ free_of (image_of bytes)
+free_back im good bytes back low slots =
+    let free : cond (is_slotted im.kind) (4096 - length (packed im.items)) 0 - (32 + 2 * length im.items) ≡ cond (is_slotted im.kind) (4064 - used im.items) 0 =
+    ⊎_elim (λ slotted. ap (λ (b : Bool). cond b (4096 - length (packed im.items)) 0 - (32 + 2 * length im.items)) slotted ∙ omega (arith, good.room, used_is im.items) ∙ ap (λ (b : Bool). cond b (4064 - used im.items) 0) (sym slotted))
+    (λ plain. ap (λ (b : Bool). cond b (4096 - length (packed im.items)) 0 - (32 + 2 * length im.items)) plain ∙ omega arith ∙ ap (λ (b : Bool). cond b (4064 - used im.items) 0) (sym plain))
+    (cases_Bool (is_slotted im.kind)) in
+    ap (λ (q : ℕ). q - (32 + 2 * number 2 (drop 2 bytes))) low
+    ∙ ap (λ (q : ℕ). cond (is_slotted im.kind) (4096 - length (packed im.items)) 0 - (32 + 2 * q)) slots
+    ∙ free ∙ ap free_of (sym back)
+
 -- the spelling of an image is a page
 pub IsPage-page_bytes : (im : Image) → IsImage im → IsPage (page_bytes im)
 IsPage-page_bytes im good =
@@ -258,6 +270,7 @@ IsPage-page_bytes im good =
     let header : header_at bytes ≡ header_of im = header_at-page_bytes im good in
     let page : number 4 (drop 4 bytes) ≡ im.page = ap (λ (h : Header). h.page) header in
     let slots : number 2 (drop 2 bytes) ≡ length im.items = ap (λ (h : Header). h.slots) header in
+    let low : number 2 (drop 28 bytes) ≡ cond (is_slotted im.kind) (4096 - length (packed im.items)) 0 = ap (λ (h : Header). h.low) header in
     let items : (image_of bytes).items ≡ im.items = ap (λ (q : Image). q.items) back in
     record {
       spelled = ap page_bytes (sym back);
@@ -266,6 +279,7 @@ IsPage-page_bytes im good =
       header_is = header ∙ ap header_of (sym back);
       page_bound = omega (arith, good.page_bound);
       slots_bound = omega (arith, count_bound im good);
+      free_is = free_back im good bytes back low slots;
       count = slots ∙ ap (λ (q : List (List ℕ)). length q) (sym items);
       placed = λ i within. placed_items im good i (subst (λ (q : List (List ℕ)). i < length q) items within) items;
     }

@@ -3,7 +3,7 @@ use Rattle.std.specs.Prelude.{◌≡◌, ◌≤◌, ◌<◌, ◌+◌, ◌-◌, �
 use Rattle.rm_base.specs.Fields.{number}
 use Rattle.page_image.specs.declared.kind.Kind.TheVariants.{Unmade}
 use Rattle.page_image.specs.declared.TheConstants.{PAGE_BYTES, HEADER_BYTES}
-use Rattle.page_image.specs.Image.{Image, is_slotted, has_body, used, LevelFits}
+use Rattle.page_image.specs.Image.{Image, is_slotted, has_body, used, free_of, LevelFits}
 use Rattle.page_image.specs.Layout.{header_at, header_of, image_of, page_bytes, end_of}
 
 -- an image of some page
@@ -36,4 +36,5 @@ pub record IsPage (bytes : List ℕ) : Type 0 where
   pub page_bound : number 4 (drop 4 bytes) ≤ 32767
   pub slots_bound : number 2 (drop 2 bytes) ≤ 1354
   pub count : number 2 (drop 2 bytes) ≡ length (image_of bytes).items
+  pub free_is : number 2 (drop 28 bytes) - (HEADER_BYTES + 2 * number 2 (drop 2 bytes)) ≡ free_of (image_of bytes)
   pub placed : (i : ℕ) → i < length (image_of bytes).items → IsPlaced bytes i

@@ -3,8 +3,11 @@
 
 mod header;
 mod kind;
+mod layout;
+mod page;
 
 pub use kind::Kind;
+pub use page::Page;
 
 /// The bytes of a page.
 pub const PAGE_BYTES: usize = 4096;

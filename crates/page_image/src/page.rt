@@ -1,0 +1,152 @@
+//! A page as a value.
+ghost use Rattle.std.specs.Prelude.{◌≡◌, ◌≤◌, length, IfOk, slice_get};
+ghost use Rattle.std.specs.Option.{option_copied};
+ghost use Rattle.page_image.specs.Image.{unmade, free_of};
+ghost use Rattle.page_image.specs.Layout.{page_bytes};
+ghost use Rattle.page_image.specs.Rules.{IsImage};
+
+use crate::header::Header;
+use crate::kind::Kind;
+use crate::layout::item_end;
+use crate::{HEADER_BYTES, PAGE_BYTES};
+use rm_base::{Duplicate, Lsn, PageId, WantOfMemory, get_u16, get_u32, get_u64};
+use std::alloc::Global;
+use std::marker::Model;
+
+/// A page of 4,096 bytes. Contracts see its header and its items or its body.
+#[derive(Debug, Drop)]
+pub struct Page {
+    bytes: Vec<u8>,
+}
+
+impl Model for Page {
+    ghost use Rattle.page_image.specs.Image.{Image};
+    ghost use Rattle.page_image.specs.Layout.{image_of};
+    ghost use Rattle.page_image.specs.Rules.{IsPage};
+
+    ghost Value = { Image };
+
+    ghost view = { λ page. image_of page.bytes.items };
+
+    ghost invariant = { λ page. IsPage page.bytes.items };
+}
+
+impl Page {
+    /// The page before it is made.
+    pub fn blank(alloc: Global, page: PageId) -> Result<Page, WantOfMemory>
+        ensures { IfOk result (λ blank. blank ≡ unmade page) }
+    {
+        let mut bytes = vec![in alloc; 0u8; PAGE_BYTES]?;
+        let header = Header {
+            kind: Kind::Unmade,
+            slots: 0,
+            page: page.number(),
+            lsn: 0,
+            structure: 0,
+            next: 0,
+            low: 0,
+            level: 0,
+        };
+        header.write(bytes.as_mut_slice());
+        Ok(Page { bytes })
+    }
+
+    /// Makes this page the same as the other one.
+    pub fn copy_from(&mut self, other: &Page)
+        ensures { self.new ≡ other.now }
+    {
+        self.bytes
+            .as_mut_slice()
+            .copy_from_slice(other.bytes.as_slice());
+    }
+
+    /// The page as it is stored.
+    pub fn bytes(&self) -> &[u8]
+        ensures spelled { result.now ≡ page_bytes self.now }
+        ensures all { length result.now ≡ PAGE_BYTES }
+        ensures rules { IsImage self.now }
+    {
+        self.bytes.as_slice()
+    }
+
+    pub fn kind(&self) -> Kind
+        ensures { result ≡ self.now.kind }
+    {
+        Kind::from_number(self.bytes[0]).unwrap_or(Kind::Unmade)
+    }
+
+    pub fn page(&self) -> PageId
+        ensures { result ≡ self.now.page }
+    {
+        PageId::new(get_u32(self.bytes.as_slice(), 4)).unwrap()
+    }
+
+    /// The LSN of the last change. 0 before the page is made.
+    pub fn lsn(&self) -> Lsn
+        ensures { result ≡ self.now.lsn }
+    {
+        Lsn::new(get_u64(self.bytes.as_slice(), 8))
+    }
+
+    /// The LSN of the last change of the page's shape: its making, a cut, a link, or on an inner
+    /// page a change of its items.
+    pub fn structure(&self) -> Lsn
+        ensures { result ≡ self.now.structure }
+    {
+        Lsn::new(get_u64(self.bytes.as_slice(), 16))
+    }
+
+    /// The page to the right, or 0.
+    pub fn next(&self) -> u32
+        ensures value { result ≡ self.now.next }
+        ensures bound { result ≤ 32767 }
+    {
+        get_u32(self.bytes.as_slice(), 24)
+    }
+
+    /// The height over the leaves: 1 to 8 on an inner page, else 0.
+    pub fn level(&self) -> u8
+        ensures { result ≡ self.now.level }
+    {
+        self.bytes[30]
+    }
+
+    /// The number of items.
+    pub fn slots(&self) -> u16
+        ensures value { result ≡ length self.now.items }
+        ensures bound { result ≤ 1354 }
+    {
+        get_u16(self.bytes.as_slice(), 2)
+    }
+
+    /// The bytes between the slots and the items, each of which takes a slot of 2 bytes besides its
+    /// own. 0 on a page without items.
+    pub fn free(&self) -> u16
+        ensures { result ≡ free_of self.now }
+    {
+        let header = Header::read(self.bytes.as_slice());
+        header
+            .low
+            .saturating_sub(HEADER_BYTES as u16 + 2 * header.slots)
+    }
+
+    /// None exactly past the last item.
+    pub fn item(&self, i: usize) -> Option<&[u8]>
+        ensures { option_copied result ≡ slice_get self.now.items i }
+    {
+        if i >= usize::from(self.slots()) {
+            return None;
+        }
+        let bytes = self.bytes.as_slice();
+        let from = item_end(bytes, i + 1);
+        let to = item_end(bytes, i);
+        Some(&bytes[from..to])
+    }
+}
+
+impl Duplicate for Page {
+    fn copy(&self, alloc: Global) -> Result<Page, WantOfMemory> {
+        let bytes = Vec::from_slice(alloc, self.bytes.as_slice())?;
+        Ok(Page { bytes })
+    }
+}
