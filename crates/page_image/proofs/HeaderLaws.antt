@@ -74,9 +74,14 @@ written h k old b2 b4 b8 b16 b24 b28 room same e2 e4 e8 e16 e24 e28 =
 unfoldable header_with : Kind → ℕ → ℕ → ℕ → ℕ → ℕ → ℕ → ℕ → Header
 header_with k s p l t n w v = record { kind = k; slots = s; page = p; lsn = l; structure = t; next = n; low = w; level = v }
 
-same_headers : (k k' : Kind) (s s' p p' l l' t t' n n' w w' v v' : ℕ) → k ≡ k' → s ≡ s' → p ≡ p' → l ≡ l' → t ≡ t' → n ≡ n' → w ≡ w' → v ≡ v'
+same_parts : (k k' : Kind) (s s' p p' l l' t t' n n' w w' v v' : ℕ) → k ≡ k' → s ≡ s' → p ≡ p' → l ≡ l' → t ≡ t' → n ≡ n' → w ≡ w' → v ≡ v'
     → header_with k s p l t n w v ≡ header_with k' s' p' l' t' n' w' v'
-same_headers k k' s s' p p' l l' t t' n n' w w' v v' e1 e2 e3 e4 e5 e6 e7 e8 = cc
+same_parts k k' s s' p p' l l' t t' n n' w w' v v' e1 e2 e3 e4 e5 e6 e7 e8 = cc
+
+-- headers with the same fields are the same
+pub same_headers : (h g : Header) → h.kind ≡ g.kind → h.slots ≡ g.slots → h.page ≡ g.page → h.lsn ≡ g.lsn → h.structure ≡ g.structure → h.next ≡ g.next → h.low ≡ g.low → h.level ≡ g.level → h ≡ g
+unfolding header_with
+same_headers h g = same_parts h.kind g.kind h.slots g.slots h.page g.page h.lsn g.lsn h.structure g.structure h.next g.next h.low g.low h.level g.level
 
 -- a kind is read back from its number
 pub kind_with-kind_number : (k : Kind) → kind_with (kind_number k) ≡ k
@@ -108,7 +113,7 @@ open_up s p l t n w v rest = simp append_assoc
 
 -- a header is read back, whatever follows it
 pub header_at-header_bytes : (h : Header) (rest : List ℕ) → HeaderFits h → header_at (header_bytes h ++ rest) ≡ h
-unfolding header_bytes header_with
+unfolding header_bytes
 header_at-header_bytes h rest fits =
     let bytes : List ℕ = header_bytes h ++ rest in
     let t30 : List ℕ = h.level ∷ 0 ∷ rest in
@@ -126,7 +131,7 @@ header_at-header_bytes h rest fits =
     let d28 : drop 28 bytes ≡ t28 = past_field 4 24 h.next bytes t28 d24 in
     let d30 : drop 30 bytes ≡ t30 = past_field 2 28 h.low bytes t30 d28 in
     let level_is : slice_index bytes 30 ≡ h.level = sym (get_or-drop 30 bytes 0 0) ∙ ap (λ (q : List ℕ). slice_index q 0) d30 in
-    same_headers (kind_with (slice_index bytes 0)) h.kind (number 2 (drop 2 bytes)) h.slots (number 4 (drop 4 bytes)) h.page (number 8 (drop 8 bytes)) h.lsn (number 8 (drop 16 bytes)) h.structure (number 4 (drop 24 bytes)) h.next (number 2 (drop 28 bytes)) h.low (slice_index bytes 30) h.level
+    same_headers (header_at bytes) h
     (kind_with-kind_number h.kind)
     (read_field 2 2 h.slots bytes t4 fits.slots_fit d2)
     (read_field 4 4 h.page bytes t8 fits.page_fits d4)

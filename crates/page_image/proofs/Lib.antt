@@ -2,3 +2,4 @@ pub mod HeaderLaws
 pub mod ItemLaws
 pub mod PageLaws
 pub mod StepLaws
+pub mod ChangeLaws

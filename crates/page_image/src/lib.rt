@@ -1,6 +1,7 @@
 //! Pages of 4,096 bytes: a header and a list of items, or a header and a body of fields.
 #![tactic(auto)]
 
+mod changes;
 mod header;
 mod kind;
 mod layout;

@@ -5,6 +5,7 @@ ghost use Rattle.page_image.specs.Image.{unmade, free_of};
 ghost use Rattle.page_image.specs.Layout.{page_bytes};
 ghost use Rattle.page_image.specs.Rules.{IsImage};
 
+use crate::changes::write_blank;
 use crate::header::Header;
 use crate::kind::Kind;
 use crate::layout::item_end;
@@ -37,17 +38,7 @@ impl Page {
         ensures { IfOk result (λ blank. blank ≡ unmade page) }
     {
         let mut bytes = vec![in alloc; 0u8; PAGE_BYTES]?;
-        let header = Header {
-            kind: Kind::Unmade,
-            slots: 0,
-            page: page.number(),
-            lsn: 0,
-            structure: 0,
-            next: 0,
-            low: 0,
-            level: 0,
-        };
-        header.write(bytes.as_mut_slice());
+        write_blank(bytes.as_mut_slice(), page);
         Ok(Page { bytes })
     }
 
