@@ -1,20 +1,16 @@
 -- What a change of a page's items does to its bytes.
-use Rattle.std.proofs.Common.{◌≡◌, ◌≢◌, ◌≤◌, ◌<◌, ◌+◌, ◌-◌, ◌*◌, ◌^◌, ◌↔◌, ◌⊎◌, ℕ, Bool, true, false, cond, List, [], ◌∷◌, ◌++◌, length, take, drop, insert, remove, All, sum_by, refl, sym, ◌∙◌, ap, subst, inl, inr, ⊎_elim, arith, append_assoc, append-nil, length-append, length-drop}
-use Rattle.std.proofs.lemmas.List.{drop_at, take-append-drop, length-take-le, replicate-append-replicate}
+use Rattle.std.proofs.Common.{◌≡◌, ◌≢◌, ◌≤◌, ◌<◌, ◌+◌, ◌-◌, ◌^◌, ◌⊎◌, ℕ, Bool, true, false, cond, List, [], ◌∷◌, ◌++◌, length, take, drop, insert, All, refl, sym, ◌∙◌, ap, subst, inl, inr, ⊎_elim, arith, append-nil}
+use Rattle.std.proofs.lemmas.List.{drop_at, replicate-append-replicate}
 use Rattle.std.proofs.lemmas.List.Sums.{sum_by-insert}
 use Rattle.std.proofs.lemmas.List.Elements.{All-take, All-drop, All-cons, All-nil, All-append}
-use Rattle.std.proofs.lemmas.Bool.{cases_Bool, false≢true}
-use Rattle.rm_base.specs.Fields.{field}
+use Rattle.std.proofs.lemmas.Bool.{false≢true}
 use Rattle.page_image.specs.declared.header.Header.{Header}
 use Rattle.page_image.specs.declared.kind.Kind.{Kind}
 use Rattle.page_image.specs.declared.kind.Kind.TheVariants.{Unmade, Meta, Slots, Stamps, Leaf, Inner, Undo}
 use Rattle.page_image.specs.Image.{Image, is_slotted, is_inner, has_body, used, zeros, free_of, structure_after, unmade, made, inserted, CanMake, CanInsert, Follows}
-use Rattle.page_image.specs.Layout.{header_bytes, header_at, header_of, packed, slot_bytes, end_of, rest_bytes, page_bytes, image_of}
+use Rattle.page_image.specs.Layout.{header_bytes, header_of, packed, slot_bytes, rest_bytes, page_bytes, image_of}
 use Rattle.page_image.specs.Rules.{IsImage, IsPage}
-use Rattle.page_image.specs.Moves.{HasSlots}
-use Rattle.page_image.proofs.HeaderLaws.{length-header_bytes}
-use Rattle.page_image.proofs.ItemLaws.{used_is, length-slot_bytes, packed-append}
-use Rattle.page_image.proofs.PageLaws.{page_parts, end_of-page_bytes, length-zeros, rest-slotted, rest-body, rest-unmade, drop-page_bytes, IsPage-page_bytes, image_of-page_bytes}
+use Rattle.page_image.proofs.PageLaws.{length-zeros, rest-slotted, rest-body, rest-unmade, drop-page_bytes, IsPage-page_bytes, image_of-page_bytes}
 
 pub zeros-add : (m n : ℕ) → zeros (m + n) ≡ zeros m ++ zeros n
 unfolding zeros
@@ -47,7 +43,7 @@ structure_small : (b : Bool) (lsn structure : ℕ) → structure ≤ lsn → con
 structure_small true lsn structure h = omega arith
 structure_small false lsn structure h = h
 
-free_is_left : (im : Image) → is_slotted im.kind ≡ true → free_of im ≡ 4064 - used im.items
+pub free_is_left : (im : Image) → is_slotted im.kind ≡ true → free_of im ≡ 4064 - used im.items
 free_is_left im slotted = ap (λ (b : Bool). cond b (4064 - used im.items) 0) slotted
 
 pub inserted_good : (im : Image) (i : ℕ) (item : List ℕ) (lsn : ℕ) → IsImage im → CanInsert im i item → Follows im lsn → lsn < 2 ^ 64 → IsImage (inserted im i item lsn)
@@ -56,8 +52,8 @@ inserted_good im i item lsn good can follows small =
     (structure_small (is_inner im.kind) lsn im.structure (omega (arith, good.structure_bound, follows.later)))
     good.next_bound
     (All-append (λ (x : List ℕ). 1 ≤ length x) (take i im.items) (item ∷ drop i im.items)
-      (All-take (λ (x : List ℕ). 1 ≤ length x) i im.items good.some_bytes)
-      (All-cons (λ (x : List ℕ). 1 ≤ length x) item (drop i im.items) can.some (All-drop (λ (x : List ℕ). 1 ≤ length x) i im.items good.some_bytes)))
+    (All-take (λ (x : List ℕ). 1 ≤ length x) i im.items good.some_bytes)
+    (All-cons (λ (x : List ℕ). 1 ≤ length x) item (drop i im.items) can.some (All-drop (λ (x : List ℕ). 1 ≤ length x) i im.items good.some_bytes)))
     (omega (arith, sum_by-insert (λ (x : List ℕ). length x + 2) im.items i item, can.room, free_is_left im can.slotted, good.room))
 
 -- a change is done when the bytes spell the new image
@@ -132,7 +128,7 @@ rest-made : (im : Image) (kind : Kind) (level lsn : ℕ) → kind ≢ Unmade →
 rest-made im kind level lsn some =
     ⊎_elim (λ unmade. absurd (some unmade))
     (λ other. ⊎_elim (λ slotted. rest-empty (made im kind level lsn) slotted refl)
-      (λ body. rest-body (made im kind level lsn) (body.0) (body.1) ∙ ap (λ (b : Bool). cond b (zeros 4064) []) (body.1)) other)
+    (λ body. rest-body (made im kind level lsn) (body.0) (body.1) ∙ ap (λ (b : Bool). cond b (zeros 4064) []) (body.1)) other)
     (kinds kind)
 
 rest-before : (im : Image) (kind : Kind) (level : ℕ) → CanMake im kind level → rest_bytes im ≡ zeros 4064

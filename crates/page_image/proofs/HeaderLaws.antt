@@ -1,5 +1,5 @@
 -- A header is written field by field, and read back as it was written.
-use Rattle.std.proofs.Common.{◌≡◌, ◌≤◌, ◌<◌, ◌+◌, ◌-◌, ◌*◌, ◌^◌, ℕ, List, [], ◌∷◌, ◌++◌, length, take, drop, set, slice_index, refl, sym, ◌∙◌, ap, arith, append_assoc, length-append, length-drop, drop-cons}
+use Rattle.std.proofs.Common.{◌≡◌, ◌≤◌, ◌<◌, ◌+◌, ◌^◌, ℕ, List, [], ◌∷◌, ◌++◌, length, drop, set, slice_index, refl, sym, ◌∙◌, ap, arith, append_assoc, length-append}
 use Rattle.std.proofs.lemmas.List.{take_at, drop_at, drop-drop, set_at, drop_more, get_or-drop}
 use Rattle.rm_base.specs.Fields.{field, number, with_field}
 use Rattle.rm_base.proofs.FieldLaws.{length-field, number-field}

@@ -3,3 +3,4 @@ pub mod ItemLaws
 pub mod PageLaws
 pub mod StepLaws
 pub mod ChangeLaws
+pub mod InsertLaws

@@ -1,11 +1,10 @@
 -- A page is the spelling of its image, and the image is read back from it.
-use Rattle.std.proofs.Common.{◌≡◌, ◌≢◌, ◌≤◌, ◌<◌, ◌+◌, ◌-◌, ◌*◌, ◌^◌, ◌⊎◌, ℕ, zero, suc, Bool, true, false, cond, List, [], ◌∷◌, ◌++◌, length, take, drop, get_or, slice_get, slice_range, Some, All, refl, sym, ◌∙◌, ap, subst, inl, inr, ⊎_elim, arith, append_assoc, append-nil, length-append, length-take}
-use Rattle.std.proofs.lemmas.List.{take_at, drop_at, drop-drop, take-append-drop, drop_more, take_more, length-take-le, length-replicate}
+use Rattle.std.proofs.Common.{◌≡◌, ◌≤◌, ◌<◌, ◌+◌, ◌-◌, ◌*◌, ℕ, zero, suc, Bool, true, false, cond, List, [], ◌∷◌, ◌++◌, length, take, drop, get_or, slice_get, slice_range, Some, All, refl, sym, ◌∙◌, ap, subst, ⊎_elim, arith, append_assoc, append-nil, length-append}
+use Rattle.std.proofs.lemmas.List.{drop_at, drop-drop, take-append-drop, drop_more, take_more, length-take-le, length-replicate}
 use Rattle.std.proofs.lemmas.List.Elements.{All-head, All-tail}
 use Rattle.std.proofs.lemmas.Option.{slice_get-get_or}
 use Rattle.std.proofs.lemmas.Bool.{cases_Bool, false≢true, ne_eqb}
-use Rattle.rm_base.specs.Fields.{field, number}
-use Rattle.rm_base.proofs.FieldLaws.{length-field, number-field}
+use Rattle.rm_base.specs.Fields.{number}
 use Rattle.page_image.specs.declared.header.Header.{Header}
 use Rattle.page_image.specs.declared.kind.Kind.{Kind}
 use Rattle.page_image.specs.declared.kind.Kind.TheVariants.{Unmade, Meta, Slots, Stamps, Leaf, Inner, Undo}
@@ -96,11 +95,11 @@ header_at-page_bytes im good = header_at-header_bytes (header_of im) (rest_bytes
 pub length-rest_bytes : (im : Image) → IsImage im → length (rest_bytes im) ≡ 4064
 length-rest_bytes im good =
     ⊎_elim (λ slotted.
-      ap (λ (q : List ℕ). length q) (rest-slotted im slotted)
-      ∙ length-append (slot_bytes 4096 im.items) (zeros (4064 - used im.items) ++ packed im.items)
-      ∙ omega (arith, good.room, used_is im.items, length-slot_bytes 4096 im.items, length-zeros (4064 - used im.items), length-append (zeros (4064 - used im.items)) (packed im.items)))
+    ap (λ (q : List ℕ). length q) (rest-slotted im slotted)
+    ∙ length-append (slot_bytes 4096 im.items) (zeros (4064 - used im.items) ++ packed im.items)
+    ∙ omega (arith, good.room, used_is im.items, length-slot_bytes 4096 im.items, length-zeros (4064 - used im.items), length-append (zeros (4064 - used im.items)) (packed im.items)))
     (λ plain. ⊎_elim (λ body. ap (λ (q : List ℕ). length q) (rest-body im plain body) ∙ good.whole_body body)
-      (λ none. ap (λ (q : List ℕ). length q) (rest-unmade im plain none) ∙ length-zeros 4064) (cases_Bool (has_body im.kind)))
+    (λ none. ap (λ (q : List ℕ). length q) (rest-unmade im plain none) ∙ length-zeros 4064) (cases_Bool (has_body im.kind)))
     (cases_Bool (is_slotted im.kind))
 
 pub length-page_bytes : (im : Image) → IsImage im → length (page_bytes im) ≡ 4096
@@ -127,25 +126,25 @@ items_back : (im : Image) → IsImage im → cond (is_slotted im.kind) (items_at
 items_back im good =
     let bytes : List ℕ = page_bytes im in
     ⊎_elim (λ slotted.
-      let z : List ℕ = zeros (4064 - used im.items) in
-      let h : List ℕ = header_bytes (header_of im) in
-      let slots : List ℕ = slot_bytes 4096 im.items in
-      let front : List ℕ = (h ++ slots) ++ z in
-      let parts : bytes ≡ front ++ (packed im.items ++ []) =
-      whole_parts im slotted in
-      let sizes : length front + length (packed im.items) ≡ 4096 =
-      omega (arith, good.room, used_is im.items, length-append (h ++ slots) z, length-append h slots, length-header_bytes (header_of im), length-slot_bytes 4096 im.items, length-zeros (4064 - used im.items)) in
-      ap (λ (b : Bool). cond b (items_at (length im.items) 4096 (drop 32 bytes) bytes) []) slotted
-      ∙ ap (λ (q : List ℕ). items_at (length im.items) 4096 q bytes) (drop-page_bytes im ∙ rest-slotted im slotted)
-      ∙ items_at-slot_bytes 4096 im.items bytes front [] (z ++ packed im.items) (omega arith) parts sizes)
+    let z : List ℕ = zeros (4064 - used im.items) in
+    let h : List ℕ = header_bytes (header_of im) in
+    let slots : List ℕ = slot_bytes 4096 im.items in
+    let front : List ℕ = (h ++ slots) ++ z in
+    let parts : bytes ≡ front ++ (packed im.items ++ []) =
+    whole_parts im slotted in
+    let sizes : length front + length (packed im.items) ≡ 4096 =
+    omega (arith, good.room, used_is im.items, length-append (h ++ slots) z, length-append h slots, length-header_bytes (header_of im), length-slot_bytes 4096 im.items, length-zeros (4064 - used im.items)) in
+    ap (λ (b : Bool). cond b (items_at (length im.items) 4096 (drop 32 bytes) bytes) []) slotted
+    ∙ ap (λ (q : List ℕ). items_at (length im.items) 4096 q bytes) (drop-page_bytes im ∙ rest-slotted im slotted)
+    ∙ items_at-slot_bytes 4096 im.items bytes front [] (z ++ packed im.items) (omega arith) parts sizes)
     (λ plain. ap (λ (b : Bool). cond b (items_at (length im.items) 4096 (drop 32 bytes) bytes) []) plain ∙ sym (good.no_items plain))
     (cases_Bool (is_slotted im.kind))
 
 body_back : (im : Image) → IsImage im → cond (has_body im.kind) (drop 32 (page_bytes im)) [] ≡ im.body
 body_back im good =
     ⊎_elim (λ body.
-      let plain : is_slotted im.kind ≡ false = ⊎_elim (λ slotted. absurd (false≢true (sym (no_both im.kind slotted) ∙ body))) (λ p. p) (cases_Bool (is_slotted im.kind)) in
-      ap (λ (b : Bool). cond b (drop 32 (page_bytes im)) []) body ∙ drop-page_bytes im ∙ rest-body im plain body)
+    let plain : is_slotted im.kind ≡ false = ⊎_elim (λ slotted. absurd (false≢true (sym (no_both im.kind slotted) ∙ body))) (λ p. p) (cases_Bool (is_slotted im.kind)) in
+    ap (λ (b : Bool). cond b (drop 32 (page_bytes im)) []) body ∙ drop-page_bytes im ∙ rest-body im plain body)
     (λ none. ap (λ (b : Bool). cond b (drop 32 (page_bytes im)) []) none ∙ sym (good.no_body none))
     (cases_Bool (has_body im.kind))
 
@@ -243,11 +242,11 @@ placed_items im good i within same =
       from = omega arith;
       to = omega arith;
       item =
-      ap (λ (q : List (List ℕ)). slice_get q i) same
-      ∙ slice_get-get_or im.items i [] within
-      ∙ ap (λ (q : List ℕ). Some q) (sym (slice_of_item im i good within)
-      ∙ ap (λ (q : ℕ). slice_range (page_bytes im) q (4096 - length (packed (take i im.items)))) (sym after)
-      ∙ ap (λ (q : ℕ). slice_range (page_bytes im) (end_of (page_bytes im) (i + 1)) q) (sym here));
+          ap (λ (q : List (List ℕ)). slice_get q i) same
+          ∙ slice_get-get_or im.items i [] within
+          ∙ ap (λ (q : List ℕ). Some q) (sym (slice_of_item im i good within)
+          ∙ ap (λ (q : ℕ). slice_range (page_bytes im) q (4096 - length (packed (take i im.items)))) (sym after)
+          ∙ ap (λ (q : ℕ). slice_range (page_bytes im) (end_of (page_bytes im) (i + 1)) q) (sym here));
     }
 
 -- the free bytes are those between the slots and the lowest item

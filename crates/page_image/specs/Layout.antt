@@ -1,5 +1,5 @@
 -- How a page lies in its bytes: its header, and its slots and items or its body.
-use Rattle.std.specs.Prelude.{◌≡◌, ◌==◌, ◌≤◌, ◌<◌, ◌+◌, ◌-◌, ◌*◌, ◌^◌, ℕ, zero, suc, Bool, List, [], ◌∷◌, ◌++◌, length, drop, slice_index, slice_range, if◌then◌else◌}
+use Rattle.std.specs.Prelude.{◌==◌, ◌+◌, ◌-◌, ◌*◌, ℕ, zero, suc, List, [], ◌∷◌, ◌++◌, length, drop, slice_index, slice_range, if◌then◌else◌}
 use Rattle.rm_base.specs.Fields.{field, number}
 use Rattle.page_image.specs.declared.header.Header.{Header}
 use Rattle.page_image.specs.declared.TheConstants.{PAGE_BYTES, HEADER_BYTES}

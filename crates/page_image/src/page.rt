@@ -1,15 +1,14 @@
 //! A page as a value.
-ghost use Rattle.std.specs.Prelude.{◌≡◌, ◌≤◌, length, IfOk, slice_get};
+ghost use Rattle.std.specs.Prelude.{◌≡◌, ◌≤◌, ◌↔◌, length, IfOk, IsTrue, slice_get};
 ghost use Rattle.std.specs.Option.{option_copied};
-ghost use Rattle.page_image.specs.Image.{unmade, free_of};
+ghost use Rattle.page_image.specs.Image.{unmade, free_of, made, inserted, CanMake, CanInsert, Follows};
 ghost use Rattle.page_image.specs.Layout.{page_bytes};
 ghost use Rattle.page_image.specs.Rules.{IsImage};
 
-use crate::changes::write_blank;
 use crate::header::Header;
 use crate::kind::Kind;
 use crate::layout::item_end;
-use crate::{HEADER_BYTES, PAGE_BYTES};
+use crate::{HEADER_BYTES, PAGE_BYTES, changes};
 use rm_base::{Duplicate, Lsn, PageId, WantOfMemory, get_u16, get_u32, get_u64};
 use std::alloc::Global;
 use std::marker::Model;
@@ -38,7 +37,7 @@ impl Page {
         ensures { IfOk result (λ blank. blank ≡ unmade page) }
     {
         let mut bytes = vec![in alloc; 0u8; PAGE_BYTES]?;
-        write_blank(bytes.as_mut_slice(), page);
+        changes::write_blank(bytes.as_mut_slice(), page);
         Ok(Page { bytes })
     }
 
@@ -132,6 +131,58 @@ impl Page {
         let from = item_end(bytes, i + 1);
         let to = item_end(bytes, i);
         Some(&bytes[from..to])
+    }
+
+    /// Whether the page can be made one of that kind and level.
+    pub fn can_make(&self, kind: Kind, level: u8) -> bool
+        ensures { IsTrue result ↔ CanMake self.now kind level }
+    {
+        let level_fits = match kind {
+            Kind::Unmade => false,
+            Kind::Inner => 1 <= level && level <= 8,
+            _ => level == 0,
+        };
+        let from = match self.kind() {
+            Kind::Unmade => true,
+            Kind::Leaf | Kind::Inner => self.slots() == 0 && kind == Kind::Inner,
+            _ => false,
+        };
+        level_fits && from
+    }
+
+    /// Makes the page an empty one of that kind and level.
+    pub fn make(&mut self, kind: Kind, level: u8, lsn: Lsn)
+        requires can { CanMake self.old kind level }
+        requires follows { Follows self.old lsn }
+        ensures { self.new ≡ made self.old kind level lsn }
+    {
+        changes::make(self.bytes.as_mut_slice(), kind, level, lsn.number());
+    }
+
+    /// Whether the item can join the items at place i.
+    pub fn can_insert(&self, i: u16, item: &[u8]) -> bool
+        ensures { IsTrue result ↔ CanInsert self.now i item.now }
+    {
+        let free = usize::from(self.free());
+        self.kind().has_items()
+            && i <= self.slots()
+            && 1 <= item.len()
+            && item.len() <= free
+            && item.len() + 2 <= free
+    }
+
+    /// Puts the item at place i, in front of the item that is there now.
+    pub fn insert_item(&mut self, i: u16, item: &[u8], lsn: Lsn)
+        requires can { CanInsert self.old i item.now }
+        requires follows { Follows self.old lsn }
+        ensures { self.new ≡ inserted self.old i item.now lsn }
+    {
+        changes::insert(
+            self.bytes.as_mut_slice(),
+            usize::from(i),
+            item,
+            lsn.number(),
+        );
     }
 }
 

@@ -1,7 +1,7 @@
-use Rattle.std.proofs.Common.{◌≡◌, ◌<◌, ◌^◌, ℕ, List, ap, refl, arith}
+use Rattle.std.proofs.Common.{ap, refl}
 use Rattle.page_image.specs.declared.header.Header.{Header}
 use Rattle.page_image.specs.Image.{Image, made}
-use Rattle.page_image.specs.Layout.{header_of, image_of, page_bytes}
+use Rattle.page_image.specs.Layout.{header_of, image_of}
 use Rattle.page_image.proofs.HeaderLaws.{same_headers}
 use Rattle.page_image.proofs.ChangeLaws.{is_page_then, shows_then, made_good, made_bytes}
 use Rattle.page_image.proofs.changes.make.Goals as goal

@@ -1,4 +1,4 @@
-use Rattle.std.proofs.Common.{◌≡◌, ℕ, length, ap, refl, ◌∙◌, sym, arith}
+use Rattle.std.proofs.Common.{◌≡◌, ℕ, length, ap, arith}
 use Rattle.page_image.specs.declared.header.Header.{Header}
 use Rattle.page_image.specs.declared.kind.Kind.TheVariants.{Unmade}
 use Rattle.page_image.specs.Image.{unmade}

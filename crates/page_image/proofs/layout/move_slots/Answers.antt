@@ -1,4 +1,4 @@
-use Rattle.std.proofs.Common.{◌≡◌, ◌<◌, ◌+◌, ◌-◌, ◌*◌, ℕ, List, length, take, ◌∙◌, ap, arith, rules}
+use Rattle.std.proofs.Common.{◌≡◌, ◌<◌, ◌+◌, ◌-◌, ℕ, List, length, take, ◌∙◌, arith, rules}
 use Rattle.page_image.specs.Layout.{packed}
 use Rattle.page_image.proofs.StepLaws.{moved_all, moved_more, slot_read, slot_goes, slots_there}
 use Rattle.page_image.proofs.layout.move_slots.Goals as goal

@@ -1,5 +1,4 @@
 use Rattle.std.proofs.Common.{rules}
-use Rattle.std.proofs.lemmas.Grind.{common_steps}
 use Rattle.page_image.specs.Image.{zeros}
 use Rattle.page_image.proofs.page.Page.blank.Goals as goal
 
