@@ -15,3 +15,6 @@ pub const PAGE_BYTES: usize = 4096;
 
 /// The bytes of a page's header.
 pub const HEADER_BYTES: usize = 32;
+
+#[cfg(test)]
+mod tests;
