@@ -1,10 +1,11 @@
 -- What moving, writing and clearing a part of the bytes leaves, by the pieces that stand there.
-use Rattle.std.proofs.Common.{◌≡◌, ◌≤◌, ◌<◌, ◌+◌, ◌-◌, ◌*◌, ℕ, List, [], ◌∷◌, ◌++◌, length, take, drop, get_or, sym, ◌∙◌, ap, arith, append_assoc, append-nil, length-append, length-drop}
+use Rattle.std.proofs.Common.{◌≡◌, ◌≤◌, ◌<◌, ◌+◌, ◌-◌, ◌*◌, ℕ, List, [], ◌∷◌, ◌++◌, length, take, drop, get_or, refl, sym, ◌∙◌, ap, arith, append_assoc, append-nil, length-append, length-drop}
 use Rattle.std.proofs.lemmas.List.{take_at, drop_at, drop-drop, drop-append-le, take-append-drop, drop_more, take_more, length-take-le, take_all, drop_all, take-append-le, take-take}
 use lib.Seq.{paste}
 use borrow.Rule.Slice.PartMut.{put_mid}
 use Rattle.rm_base.specs.Fields.{field, number, with_field}
 use Rattle.rm_base.proofs.FieldLaws.{length-field, number-field}
+use Rattle.page_image.specs.Image.{zeros}
 use Rattle.page_image.specs.Layout.{packed, slot_bytes}
 use Rattle.page_image.specs.Moves.{HasSlots}
 use Rattle.page_image.proofs.ItemLaws.{length-slot_bytes, packed-append, slot_bytes-append}
@@ -183,3 +184,92 @@ opened_slot at n to p b g s new old mid now lifted written begins size gap parts
     ∙ ap (λ (q : List ℕ). with_field 2 q at to) parted
     ∙ ap (λ (q : List ℕ). q ++ (field 2 to ++ drop (at + 2) (w ++ (new ++ s)))) start
     ∙ ap (λ (q : List ℕ). p ++ (field 2 to ++ q)) (drop_at w (new ++ s) (at + 2) front)
+
+-- a piece made zero
+pub cleared : (from to : ℕ) (old now part p m s : List ℕ) → part ≡ zeros (length (take (to - from) (drop from old))) → now ≡ put_mid from (to - from) old part
+    → length p ≡ from → from + length m ≡ to → old ≡ p ++ (m ++ s) → now ≡ p ++ (zeros (length m) ++ s)
+cleared from to old now part p m s zero written begins ends parts =
+    let size : length m ≡ to - from = omega arith in
+    let piece : take (to - from) (drop from old) ≡ m = ap (λ (q : List ℕ). take (to - from) (drop from q)) parts ∙ ap (take (to - from)) (drop_at p (m ++ s) from begins) ∙ take_at m s (to - from) size in
+    written
+    ∙ ap (λ (q : List ℕ). put_mid from (to - from) q part) parts
+    ∙ put_mid_pieces from (to - from) p m s part begins size
+    ∙ ap (λ (q : List ℕ). p ++ (q ++ s)) (zero ∙ ap (λ (q : List ℕ). zeros (length q)) piece)
+
+-- an item x below which b stands, taken away, and b moved up over it
+pub taken_item : (from to size : ℕ) (old mid now part p b x s : List ℕ)
+    → mid ≡ paste old (from + size) (drop from old) (to - size - from)
+    → part ≡ zeros (length (take (from + size - from) (drop from mid)))
+    → now ≡ put_mid from (from + size - from) mid part
+    → length p ≡ from → length x ≡ size → from + length b + length x ≡ to → old ≡ p ++ (b ++ (x ++ s)) → now ≡ p ++ (zeros size ++ (b ++ s))
+taken_item from to size old mid now part p b x s moved zero written begins item ends parts =
+    let n : ℕ = to - size - from in
+    let n_is : length b ≡ n = omega arith in
+    let w : List ℕ = take (from + size) old in
+    let joined : old ≡ p ++ ((b ++ x) ++ s) = parts ∙ ap (λ (q : List ℕ). p ++ q) (sym (append_assoc b x s)) in
+    let long : length old ≡ from + length b + size + length s = ap (λ (q : List ℕ). length q) joined ∙ length-append p ((b ++ x) ++ s) ∙ omega (arith, length-append (b ++ x) s, length-append b x) in
+    let lifted : take n (drop from old) ≡ b = ap (λ (q : List ℕ). take n (drop from q)) parts ∙ ap (take n) (drop_at p (b ++ (x ++ s)) from begins) ∙ take_at b (x ++ s) n n_is in
+    let same : from + size + n ≡ from + (size + n) = omega arith in
+    let behind : drop (from + size + n) old ≡ s =
+    ap (λ (q : ℕ). drop q old) same ∙ behind_pieces from (size + n) p (b ++ x) s old joined begins (omega (arith, length-append b x))
+    ∙ ap (λ (q : List ℕ). q ++ s) (drop_all (size + n) (b ++ x) (omega (arith, length-append b x))) in
+    let after : mid ≡ w ++ (b ++ s) =
+    moved ∙ ap (λ (q : List ℕ). (w ++ q) ++ drop (from + size + n) old) lifted ∙ ap (λ (q : List ℕ). (w ++ b) ++ q) behind ∙ append_assoc w b s in
+    let width : length w ≡ from + size = length-take-le (from + size) old (omega arith) in
+    let start : take from w ≡ p = take-take from (from + size) old (omega arith) ∙ ap (take from) parts ∙ take_at p (b ++ (x ++ s)) from begins in
+    let gap : List ℕ = drop from w in
+    let gap_is : length gap ≡ size = length-drop from w ∙ omega arith in
+    let split : mid ≡ p ++ (gap ++ (b ++ s)) =
+    after ∙ ap (λ (q : List ℕ). q ++ (b ++ s)) (sym (take-append-drop from w)) ∙ ap (λ (q : List ℕ). (q ++ gap) ++ (b ++ s)) start ∙ append_assoc p gap (b ++ s) in
+    cleared from (from + size) mid now part p gap (b ++ s) zero written begins (omega arith) split
+    ∙ ap (λ (q : ℕ). p ++ (zeros q ++ (b ++ s))) gap_is
+
+-- the part that slots b take when they moved down by two
+pub lowered : (at n : ℕ) (p g b s old mid : List ℕ) → mid ≡ paste old at (drop (at + 2) old) (at + n + 2 - (at + 2)) → length p ≡ at → length g ≡ 2 → length b ≡ n → old ≡ p ++ (g ++ (b ++ s))
+    → mid ≡ p ++ (b ++ (drop n (g ++ b) ++ s))
+lowered at n p g b s old mid moved begins gap size parts =
+    let same : length b ≡ at + n + 2 - (at + 2) = omega arith in
+    let less : at + n + 2 - (at + 2) ≡ n = omega arith in
+    let joined : old ≡ p ++ ((g ++ b) ++ s) = parts ∙ ap (λ (q : List ℕ). p ++ q) (sym (append_assoc g b s)) in
+    let split : old ≡ (p ++ g) ++ (b ++ s) = parts ∙ sym (append_assoc p g (b ++ s)) in
+    let behind : drop (at + (at + n + 2 - (at + 2))) old ≡ drop n (g ++ b) ++ s =
+    ap (λ (q : ℕ). drop (at + q) old) less ∙ behind_pieces at n p (g ++ b) s old joined begins (omega (arith, length-append g b)) in
+    paste_pieces (at + 2) at (at + n + 2 - (at + 2)) p g b (drop n (g ++ b)) s old mid moved (length-append p g ∙ omega arith) begins same split behind
+
+pub lowered_part : (at n : ℕ) (p b w mid : List ℕ) → mid ≡ p ++ (b ++ w) → length p ≡ at → length b ≡ n → take (at + n - at) (drop at mid) ≡ b
+lowered_part at n p b w mid parts begins size =
+    ap (λ (q : List ℕ). take (at + n - at) (drop at q)) parts ∙ ap (take (at + n - at)) (drop_at p (b ++ w) at begins) ∙ take_at b w (at + n - at) (omega arith)
+
+field-zero : field 2 0 ≡ zeros 2
+unfolding field zeros
+field-zero = refl
+
+-- slots that moved down and changed to `new`, with zero bytes behind them
+pub closed_slot : (at n : ℕ) (p g b s new old mid now : List ℕ)
+    → mid ≡ p ++ (b ++ (drop n (g ++ b) ++ s))
+    → now ≡ with_field 2 (put_mid at (at + n - at) mid new) (at + n) 0
+    → length p ≡ at → length g ≡ 2 → length b ≡ n → length new ≡ n
+    → now ≡ p ++ (new ++ (zeros 2 ++ s))
+closed_slot at n p g b s new old mid now parts written begins gap size kept =
+    let w : List ℕ = drop n (g ++ b) in
+    let w_is : length w ≡ 2 = length-drop n (g ++ b) ∙ omega (arith, length-append g b) in
+    let place : length (p ++ new) ≡ at + n = length-append p new ∙ omega arith in
+    let parted : put_mid at (at + n - at) mid new ≡ (p ++ new) ++ (w ++ s) =
+    ap (λ (q : List ℕ). put_mid at (at + n - at) q new) parts ∙ put_mid_pieces at (at + n - at) p b (w ++ s) new begins (omega arith) ∙ sym (append_assoc p new (w ++ s)) in
+    let front : take (at + n) ((p ++ new) ++ (w ++ s)) ≡ p ++ new = take_at (p ++ new) (w ++ s) (at + n) place in
+    let behind : drop (at + n + 2) ((p ++ new) ++ (w ++ s)) ≡ s =
+    sym (drop-drop 2 (at + n) ((p ++ new) ++ (w ++ s))) ∙ ap (drop 2) (drop_at (p ++ new) (w ++ s) (at + n) place) ∙ drop_at w s 2 w_is in
+    written
+    ∙ ap (λ (q : List ℕ). with_field 2 q (at + n) 0) parted
+    ∙ ap (λ (q : List ℕ). q ++ (field 2 0 ++ drop (at + n + 2) ((p ++ new) ++ (w ++ s)))) front
+    ∙ ap (λ (q : List ℕ). (p ++ new) ++ (field 2 0 ++ q)) behind
+    ∙ ap (λ (q : List ℕ). (p ++ new) ++ (q ++ s)) field-zero
+    ∙ append_assoc p new (zeros 2 ++ s)
+
+-- new bytes in a piece's place
+pub overwritten : (at n : ℕ) (old now part new p m s : List ℕ) → part ≡ new → now ≡ put_mid at (at + n - at) old part → n ≡ length new → length p ≡ at → length m ≡ length new → old ≡ p ++ (m ++ s) → now ≡ p ++ (new ++ s)
+overwritten at n old now part new p m s same written size begins piece parts =
+    written
+    ∙ ap (λ (q : List ℕ). put_mid at (at + n - at) q part) parts
+    ∙ put_mid_pieces at (at + n - at) p m s part begins (omega arith)
+    ∙ ap (λ (q : List ℕ). p ++ (q ++ s)) same

@@ -1,6 +1,7 @@
 //! Slots and items in a page's bytes.
 ghost use Rattle.std.specs.Prelude.{◌≡◌, ◌≤◌, ◌+◌, ◌*◌, ℕ, List, ◌++◌, length};
 ghost use Rattle.rm_base.specs.Fields.{field};
+ghost use Rattle.page_image.specs.Image.{zeros};
 ghost use Rattle.page_image.specs.Layout.{end_of, slot_bytes};
 ghost use Rattle.page_image.specs.Moves.{HasSlots};
 
@@ -63,4 +64,60 @@ pub(crate) fn open_slot(bytes: &mut [u8], at: usize, count: usize, from: usize, 
     bytes.copy_within(at..end, at + 2);
     move_slots(&mut bytes[at + 2..end + 2], from, to);
     put_u16(bytes, at, to as u16);
+}
+
+fn make_zero(bytes: &mut [u8])
+    ensures { bytes.new ≡ zeros (length bytes.old) }
+{
+    bytes.fill(0);
+}
+
+/// Takes the item of `size` bytes that ends at `to` away, and moves what stands below it, from `from`
+/// on, up to its end. The room is zero bytes then.
+pub(crate) fn take_item(bytes: &mut [u8], from: usize, to: usize, size: usize)
+    requires room { from + size ≤ to }
+    requires within { to ≤ length bytes.old }
+    ensures { (p b x s : List ℕ) → length p ≡ from → length x ≡ size
+        → from + length b + length x ≡ to → bytes.old ≡ p ++ (b ++ (x ++ s))
+        → bytes.new ≡ p ++ (zeros size ++ (b ++ s)) }
+{
+    bytes.copy_within(from..to - size, from + size);
+    make_zero(&mut bytes[from..from + size]);
+}
+
+/// Takes the slot at offset `at` away from in front of `count` others. The others' items, of which the
+/// first ended at `from`, end at `to` now.
+pub(crate) fn close_slot(bytes: &mut [u8], at: usize, count: usize, from: usize, to: usize)
+    requires within { at + 2 * count + 2 ≤ length bytes.old }
+    requires slots { (p g s : List ℕ) × (items : List (List ℕ)) × (length p ≡ at) × (length g ≡ 2)
+        × (length items ≡ count) × (bytes.old ≡ p ++ (g ++ (slot_bytes from items ++ s)))
+        × HasSlots (slot_bytes from items) from to items }
+    ensures { (p g s : List ℕ) (items : List (List ℕ)) → length p ≡ at → length items ≡ count
+        → length g ≡ 2 → bytes.old ≡ p ++ (g ++ (slot_bytes from items ++ s))
+        → HasSlots (slot_bytes from items) from to items
+        → bytes.new ≡ p ++ (slot_bytes to items ++ (zeros 2 ++ s)) }
+{
+    let end = at + 2 * count;
+    bytes.copy_within(at + 2..end + 2, at);
+    move_slots(&mut bytes[at..end], from, to);
+    put_u16(bytes, end, 0);
+}
+
+/// Makes the bytes from `from` up to `to` zero.
+pub(crate) fn clear(bytes: &mut [u8], from: usize, to: usize)
+    requires order { from ≤ to }
+    requires within { to ≤ length bytes.old }
+    ensures { (p m s : List ℕ) → length p ≡ from → from + length m ≡ to
+        → bytes.old ≡ p ++ (m ++ s) → bytes.new ≡ p ++ (zeros (length m) ++ s) }
+{
+    make_zero(&mut bytes[from..to]);
+}
+
+/// Puts the bytes in at offset `at`.
+pub(crate) fn overwrite(bytes: &mut [u8], at: usize, new: &[u8])
+    requires { at + length new.now ≤ length bytes.old }
+    ensures { (p m s : List ℕ) → length p ≡ at → length m ≡ length new.now
+        → bytes.old ≡ p ++ (m ++ s) → bytes.new ≡ p ++ (new.now ++ s) }
+{
+    bytes[at..at + new.len()].copy_from_slice(new);
 }
