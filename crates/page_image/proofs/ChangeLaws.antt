@@ -39,7 +39,7 @@ kept_good im lsn structure next items good slotted some small shape link each ro
       whole_body = good.whole_body;
     }
 
-structure_small : (b : Bool) (lsn structure : ℕ) → structure ≤ lsn → cond b lsn structure ≤ lsn
+pub structure_small : (b : Bool) (lsn structure : ℕ) → structure ≤ lsn → cond b lsn structure ≤ lsn
 structure_small true lsn structure h = omega arith
 structure_small false lsn structure h = h
 

@@ -4,3 +4,5 @@ pub mod PageLaws
 pub mod StepLaws
 pub mod ChangeLaws
 pub mod InsertLaws
+pub mod LessLaws
+pub mod RemoveLaws

@@ -1,12 +1,13 @@
 //! The changes of a page, on its bytes.
 ghost use Rattle.std.specs.Prelude.{◌≡◌, if◌then◌else◌};
-ghost use Rattle.page_image.specs.Image.{unmade, zeros, is_slotted, is_inner, made, inserted, CanMake, CanInsert, Follows};
+ghost use Rattle.page_image.specs.Image.{unmade, zeros, is_slotted, is_inner, made, patched, inserted, removed, cut_from, linked};
+ghost use Rattle.page_image.specs.Image.{CanMake, CanPatch, CanInsert, CanRemove, CanCut, CanLink, Follows};
 ghost use Rattle.page_image.specs.Layout.{image_of};
 ghost use Rattle.page_image.specs.Rules.{IsPage};
 
 use crate::header::Header;
 use crate::kind::Kind;
-use crate::layout::{item_end, open_slot, put_item};
+use crate::layout::{clear, close_slot, item_end, open_slot, overwrite, put_item, take_item};
 use crate::{HEADER_BYTES, PAGE_BYTES};
 use rm_base::PageId;
 
@@ -92,5 +93,81 @@ pub(crate) fn insert(bytes: &mut [u8], i: usize, item: &[u8], lsn: u64)
         low: low as u16,
         ..header
     };
+    header.write(bytes);
+}
+
+pub(crate) fn remove(bytes: &mut [u8], i: usize, lsn: u64)
+    requires page { IsPage bytes.old }
+    requires can { CanRemove (image_of bytes.old) i }
+    requires follows { Follows (image_of bytes.old) lsn }
+    ensures page { IsPage bytes.new }
+    ensures image { image_of bytes.new ≡ removed (image_of bytes.old) i lsn }
+{
+    let header = Header::read(bytes);
+    let low = usize::from(header.low);
+    let end = item_end(bytes, i);
+    let begin = item_end(bytes, i + 1);
+    take_item(bytes, low, end, end - begin);
+    let others = usize::from(header.slots) - i - 1;
+    close_slot(bytes, HEADER_BYTES + 2 * i, others, begin, end);
+    let header = Header {
+        slots: header.slots - 1,
+        lsn,
+        structure: shape(&header, lsn),
+        low: (low + (end - begin)) as u16,
+        ..header
+    };
+    header.write(bytes);
+}
+
+pub(crate) fn cut(bytes: &mut [u8], from: usize, lsn: u64)
+    requires page { IsPage bytes.old }
+    requires can { CanCut (image_of bytes.old) from }
+    requires follows { Follows (image_of bytes.old) lsn }
+    ensures page { IsPage bytes.new }
+    ensures image { image_of bytes.new ≡ cut_from (image_of bytes.old) from lsn }
+{
+    let header = Header::read(bytes);
+    let end = item_end(bytes, from);
+    clear(bytes, HEADER_BYTES + 2 * from, end);
+    let structure = lsn;
+    let header = Header {
+        slots: from as u16,
+        lsn,
+        structure,
+        low: end as u16,
+        ..header
+    };
+    header.write(bytes);
+}
+
+pub(crate) fn link(bytes: &mut [u8], next: u32, lsn: u64)
+    requires page { IsPage bytes.old }
+    requires can { CanLink (image_of bytes.old) next }
+    requires follows { Follows (image_of bytes.old) lsn }
+    ensures page { IsPage bytes.new }
+    ensures image { image_of bytes.new ≡ linked (image_of bytes.old) next lsn }
+{
+    let header = Header {
+        lsn,
+        structure: lsn,
+        next,
+        ..Header::read(bytes)
+    };
+    header.write(bytes);
+}
+
+pub(crate) fn patch(bytes: &mut [u8], at: usize, new: &[u8], lsn: u64)
+    requires page { IsPage bytes.old }
+    requires can { CanPatch (image_of bytes.old) at new.now }
+    requires follows { Follows (image_of bytes.old) lsn }
+    ensures page { IsPage bytes.new }
+    ensures image { image_of bytes.new ≡ patched (image_of bytes.old) at new.now lsn }
+{
+    let header = Header {
+        lsn,
+        ..Header::read(bytes)
+    };
+    overwrite(bytes, at, new);
     header.write(bytes);
 }
