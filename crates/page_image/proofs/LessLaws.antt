@@ -119,8 +119,8 @@ patched_good im at new lsn good can follows small =
       room = good.room;
       no_body = λ none. absurd (false≢true (sym none ∙ can.fields));
       whole_body = λ _.
-        length-append (take place im.body) (new ++ drop (place + length new) im.body)
-        ∙ omega (arith, length-append new (drop (place + length new) im.body), length-take-le place im.body (omega (arith, can.within, can.past_header)), length-drop (place + length new) im.body, can.within, can.past_header);
+          length-append (take place im.body) (new ++ drop (place + length new) im.body)
+          ∙ omega (arith, length-append new (drop (place + length new) im.body), length-take-le place im.body (omega (arith, can.within, can.past_header)), length-drop (place + length new) im.body, can.within, can.past_header);
     }
 
 -- when the bytes stand in the body

@@ -63,8 +63,8 @@ removed_good im i lsn good can follows small =
     (structure_small (is_inner im.kind) lsn im.structure (omega (arith, good.structure_bound, follows.later)))
     good.next_bound
     (All-append (λ (x : List ℕ). 1 ≤ length x) (take i im.items) (drop (suc i) im.items)
-      (All-take (λ (x : List ℕ). 1 ≤ length x) i im.items good.some_bytes)
-      (All-drop (λ (x : List ℕ). 1 ≤ length x) (suc i) im.items good.some_bytes))
+    (All-take (λ (x : List ℕ). 1 ≤ length x) i im.items good.some_bytes)
+    (All-drop (λ (x : List ℕ). 1 ≤ length x) (suc i) im.items good.some_bytes))
     (omega (arith, sum_by-remove (λ (x : List ℕ). length x + 2) im.items i [] can.there, good.room))
 
 group_item : (f b z ys x pa : List ℕ) → f ++ (b ++ (z ++ ((ys ++ x) ++ pa))) ≡ (f ++ (b ++ z)) ++ (ys ++ (x ++ pa))

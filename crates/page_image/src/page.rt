@@ -1,7 +1,8 @@
 //! A page as a value.
 ghost use Rattle.std.specs.Prelude.{◌≡◌, ◌≤◌, ◌↔◌, length, IfOk, IsTrue, slice_get};
 ghost use Rattle.std.specs.Option.{option_copied};
-ghost use Rattle.page_image.specs.Image.{unmade, free_of, made, inserted, CanMake, CanInsert, Follows};
+ghost use Rattle.page_image.specs.Image.{unmade, free_of, made, patched, inserted, removed, cut_from, linked};
+ghost use Rattle.page_image.specs.Image.{CanMake, CanPatch, CanInsert, CanRemove, CanCut, CanLink, Follows};
 ghost use Rattle.page_image.specs.Layout.{page_bytes};
 ghost use Rattle.page_image.specs.Rules.{IsImage};
 
@@ -181,6 +182,78 @@ impl Page {
             self.bytes.as_mut_slice(),
             usize::from(i),
             item,
+            lsn.number(),
+        );
+    }
+
+    /// Whether the item at place i can leave.
+    pub fn can_remove(&self, i: u16) -> bool
+        ensures { IsTrue result ↔ CanRemove self.now i }
+    {
+        self.kind().has_items() && i < self.slots()
+    }
+
+    /// Takes the item at place i out.
+    pub fn remove_item(&mut self, i: u16, lsn: Lsn)
+        requires can { CanRemove self.old i }
+        requires follows { Follows self.old lsn }
+        ensures { self.new ≡ removed self.old i lsn }
+    {
+        changes::remove(self.bytes.as_mut_slice(), usize::from(i), lsn.number());
+    }
+
+    /// Whether the items from place `from` on can leave.
+    pub fn can_cut(&self, from: u16) -> bool
+        ensures { IsTrue result ↔ CanCut self.now from }
+    {
+        self.kind().has_items() && from <= self.slots()
+    }
+
+    /// Takes the items from place `from` on out.
+    pub fn cut(&mut self, from: u16, lsn: Lsn)
+        requires can { CanCut self.old from }
+        requires follows { Follows self.old lsn }
+        ensures { self.new ≡ cut_from self.old from lsn }
+    {
+        changes::cut(self.bytes.as_mut_slice(), usize::from(from), lsn.number());
+    }
+
+    /// Whether the page can be linked to page `next`, or to none by 0.
+    pub fn can_link(&self, next: u32) -> bool
+        ensures { IsTrue result ↔ CanLink self.now next }
+    {
+        self.kind().has_items() && next <= 32767
+    }
+
+    /// Links the page to page `next`, or to none by 0.
+    pub fn link(&mut self, next: u32, lsn: Lsn)
+        requires can { CanLink self.old next }
+        requires follows { Follows self.old lsn }
+        ensures { self.new ≡ linked self.old next lsn }
+    {
+        changes::link(self.bytes.as_mut_slice(), next, lsn.number());
+    }
+
+    /// Whether the bytes lie in the page's body at offset `at`, counted from the page's start.
+    pub fn can_patch(&self, at: u16, bytes: &[u8]) -> bool
+        ensures { IsTrue result ↔ CanPatch self.now at bytes.now }
+    {
+        self.kind().has_body()
+            && HEADER_BYTES <= usize::from(at)
+            && bytes.len() <= PAGE_BYTES
+            && usize::from(at) + bytes.len() <= PAGE_BYTES
+    }
+
+    /// Puts the bytes into the body at offset `at`, counted from the page's start.
+    pub fn patch(&mut self, at: u16, bytes: &[u8], lsn: Lsn)
+        requires can { CanPatch self.old at bytes.now }
+        requires follows { Follows self.old lsn }
+        ensures { self.new ≡ patched self.old at bytes.now lsn }
+    {
+        changes::patch(
+            self.bytes.as_mut_slice(),
+            usize::from(at),
+            bytes,
             lsn.number(),
         );
     }
