@@ -94,7 +94,7 @@ cut_bytes im from lsn h bytes new can parts same written =
     ∙ sym (page_parts (cut_from im from lsn) (take from im.items) [] can.slotted (sym (append-nil (take from im.items))))
 
 -- a patch
-patch_plain : (im : Image) → has_body im.kind ≡ true → is_slotted im.kind ≡ false
+pub patch_plain : (im : Image) → has_body im.kind ≡ true → is_slotted im.kind ≡ false
 patch_plain im body = ⊎_elim (λ slotted. absurd (false≢true (sym (no_both im.kind slotted) ∙ body))) (λ p. p) (cases_Bool (is_slotted im.kind))
 
 body_split : (body : List ℕ) (place n : ℕ) → body ≡ take place body ++ (take n (drop place body) ++ drop (place + n) body)

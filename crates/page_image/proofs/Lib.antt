@@ -6,3 +6,4 @@ pub mod ChangeLaws
 pub mod InsertLaws
 pub mod LessLaws
 pub mod RemoveLaws
+pub mod LendLaws

@@ -2,3 +2,4 @@ pub mod Image
 pub mod Layout
 pub mod Rules
 pub mod Moves
+pub mod Lending

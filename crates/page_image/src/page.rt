@@ -1,5 +1,5 @@
 //! A page as a value.
-ghost use Rattle.std.specs.Prelude.{◌≡◌, ◌≤◌, ◌↔◌, length, IfOk, IsTrue, slice_get};
+ghost use Rattle.std.specs.Prelude.{◌≡◌, ◌≤◌, ◌+◌, ◌↔◌, slice_range, length, IfOk, IsTrue, slice_get};
 ghost use Rattle.std.specs.Option.{option_copied};
 ghost use Rattle.page_image.specs.Image.{unmade, free_of, made, patched, inserted, removed, cut_from, linked};
 ghost use Rattle.page_image.specs.Image.{CanMake, CanPatch, CanInsert, CanRemove, CanCut, CanLink, Follows};
@@ -33,6 +33,9 @@ impl Model for Page {
 }
 
 impl Page {
+    ghost use Rattle.std.specs.Borrow.{sem};
+    ghost use Rattle.page_image.specs.Lending.{CanLend, LendsPart};
+
     /// The page before it is made.
     pub fn blank(alloc: Global, page: PageId) -> Result<Page, WantOfMemory>
         ensures { IfOk result (λ blank. blank ≡ unmade page) }
@@ -256,6 +259,27 @@ impl Page {
             bytes,
             lsn.number(),
         );
+    }
+
+    /// Whether `n` bytes lie in the page's body at offset `at`, counted from the page's start.
+    pub fn can_lend(&self, at: usize, n: usize) -> bool
+        ensures { IsTrue result ↔ CanLend self.now at n }
+    {
+        self.kind().has_body()
+            && HEADER_BYTES <= at
+            && at <= PAGE_BYTES
+            && n <= PAGE_BYTES
+            && at + n <= PAGE_BYTES
+    }
+
+    /// Lends `n` bytes of the body from offset `at` on, counted from the page's start. What is written
+    /// there are the page's bytes then, and all else stays.
+    pub fn slice_mut(&mut self, at: usize, n: usize) -> &mut [u8]
+        requires { CanLend self.old at n }
+        ensures* writes_back { sem 𝓛 (LendsPart self.entry at result) }
+        ensures value { result.now ≡ slice_range (page_bytes self.old) at (at + n) }
+    {
+        self.bytes.slice_mut(at..at + n)
     }
 }
 
