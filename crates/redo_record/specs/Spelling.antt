@@ -1,0 +1,108 @@
+-- The one spelling of each record, group and log in bytes. Numbers have their highest byte first.
+use Rattle.std.specs.Prelude.{◌≡◌, ◌≢◌, ◌≤◌, ◌<◌, ◌+◌, ◌-◌, ◌^◌, ℕ, List, [], ◌∷◌, ◌++◌, length}
+use Rattle.std.specs.List.{flat_map, AllByRecursion}
+use Rattle.rm_base.specs.Fields.{field, AreBytes}
+use Rattle.page_image.specs.declared.kind.Kind.{Kind}
+use Rattle.page_image.specs.declared.kind.Kind.TheVariants.{Unmade, Meta, Slots, Stamps, Leaf, Inner, Undo}
+use Rattle.page_image.specs.declared.TheConstants.{PAGE_BYTES, HEADER_BYTES}
+use Rattle.page_image.specs.Image.{LevelFits}
+use Rattle.redo_record.specs.declared.redo.Record.{Record}
+use Rattle.redo_record.specs.declared.redo.Record.TheVariants.{Make, Patch, InsertSlot, RemoveSlot, Cut, Link}
+use Rattle.redo_record.specs.declared.redo.Group.{Group}
+
+-- the byte of a page's kind
+abbrev pub kind_byte : Kind → ℕ
+kind_byte Unmade = 0
+kind_byte Meta = 1
+kind_byte Slots = 2
+kind_byte Stamps = 3
+kind_byte Leaf = 4
+kind_byte Inner = 5
+kind_byte Undo = 6
+
+-- bytes behind their number
+abbrev pub counted : List ℕ → List ℕ
+counted bytes = field 2 (length bytes) ++ bytes
+
+-- a record: the byte of what it does, its page, and its own fields
+abbrev pub record_bytes : Record → List ℕ
+record_bytes (Make page kind level) = 1 ∷ (field 4 page ++ (kind_byte kind ∷ level ∷ []))
+record_bytes (Patch page at bytes) = 2 ∷ (field 4 page ++ (field 2 at ++ counted bytes))
+record_bytes (InsertSlot page index bytes) = 3 ∷ (field 4 page ++ (field 2 index ++ counted bytes))
+record_bytes (RemoveSlot page index) = 4 ∷ (field 4 page ++ field 2 index)
+record_bytes (Cut page from) = 5 ∷ (field 4 page ++ field 2 from)
+record_bytes (Link page next) = 6 ∷ (field 4 page ++ field 4 next)
+
+-- records one after the other
+abbrev pub records_bytes : List Record → List ℕ
+records_bytes records = flat_map record_bytes records
+
+-- the bytes of a group before its records: the length of the whole group, its LSN, and how many records it has
+abbrev pub header_bytes : ℕ → ℕ → ℕ → List ℕ
+header_bytes size lsn count = field 4 size ++ (field 8 lsn ++ field 2 count)
+
+-- how many bytes a group has
+abbrev pub size_of : Group → ℕ
+size_of g = 14 + length (records_bytes g.records)
+
+-- a group: its header and its records
+abbrev pub group_bytes : Group → List ℕ
+group_bytes g = header_bytes (size_of g) g.lsn (length g.records) ++ records_bytes g.records
+
+-- groups one after the other
+abbrev pub log_bytes : List Group → List ℕ
+log_bytes groups = flat_map group_bytes groups
+
+-- a patch and an item have at least one byte, and fit a page beside its header
+abbrev pub FitsPage : List ℕ → Type 0
+FitsPage bytes = (1 ≤ length bytes) × (length bytes ≤ PAGE_BYTES - HEADER_BYTES)
+
+-- what decoding asks of a record, beside that its fields are of their types
+abbrev pub IsAdmitted : Record → Type 0
+IsAdmitted (Make page kind level) = (kind ≢ Unmade) × LevelFits kind level
+IsAdmitted (Patch page at bytes) = FitsPage bytes
+IsAdmitted (InsertSlot page index bytes) = FitsPage bytes
+IsAdmitted (RemoveSlot page index) = Unit {0}
+IsAdmitted (Cut page from) = Unit {0}
+IsAdmitted (Link page next) = next ≤ 32767
+
+-- each field is of its type: of any record that the program has, this holds
+abbrev pub IsTyped : Record → Type 0
+IsTyped (Make page kind level) = page ≤ 32767
+IsTyped (Patch page at bytes) = (page ≤ 32767) × (at < 2 ^ 16) × AreBytes bytes
+IsTyped (InsertSlot page index bytes) = (page ≤ 32767) × (index < 2 ^ 16) × AreBytes bytes
+IsTyped (RemoveSlot page index) = (page ≤ 32767) × (index < 2 ^ 16)
+IsTyped (Cut page from) = (page ≤ 32767) × (from < 2 ^ 16)
+IsTyped (Link page next) = page ≤ 32767
+
+-- what is read as a record
+abbrev pub IsRecord : Record → Type 0
+IsRecord r = IsTyped r × IsAdmitted r
+
+-- what is read as a group
+pub record IsGroup (g : Group) : Type 0 where
+  pub first : 1 ≤ g.lsn
+  pub bound : g.lsn < 2 ^ 64
+  pub some : 1 ≤ length g.records
+  pub most : length g.records ≤ 65535
+  pub each : AllByRecursion IsRecord g.records
+
+-- what decoding asks of a group of the program
+pub record IsEncodable (g : Group) : Type 0 where
+  pub first : 1 ≤ g.lsn
+  pub some : 1 ≤ length g.records
+  pub most : length g.records ≤ 65535
+  pub each : AllByRecursion IsAdmitted g.records
+
+-- what is read as a log
+abbrev pub IsLog : List Group → Type 0
+IsLog groups = AllByRecursion IsGroup groups
+
+-- the redo grammar: the bytes are the spelling of these groups
+pub record Spells (bytes : List ℕ) (groups : List Group) : Type 0 where
+  pub groups_are : IsLog groups
+  pub bytes_are : bytes ≡ log_bytes groups
+
+-- no group begins the bytes
+abbrev pub BeginsNoGroup : List ℕ → Type 0
+BeginsNoGroup bytes = (g : Group) (rest : List ℕ) → IsGroup g → bytes ≡ group_bytes g ++ rest → ⊥
