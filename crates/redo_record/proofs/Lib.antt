@@ -1,0 +1,5 @@
+pub mod Steps
+pub mod FieldReading
+pub mod RecordReading
+pub mod GroupReading
+pub mod RecordLoop

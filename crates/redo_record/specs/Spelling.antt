@@ -102,7 +102,3 @@ IsLog groups = AllByRecursion IsGroup groups
 pub record Spells (bytes : List ℕ) (groups : List Group) : Type 0 where
   pub groups_are : IsLog groups
   pub bytes_are : bytes ≡ log_bytes groups
-
--- no group begins the bytes
-abbrev pub BeginsNoGroup : List ℕ → Type 0
-BeginsNoGroup bytes = (g : Group) (rest : List ℕ) → IsGroup g → bytes ≡ group_bytes g ++ rest → ⊥

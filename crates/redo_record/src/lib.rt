@@ -2,6 +2,9 @@
 //! page.
 #![tactic(auto)]
 
+mod decoding;
+mod reader;
+mod record_reader;
 mod redo;
 
 pub use redo::{Group, Groups, Record, Records};

@@ -40,6 +40,14 @@ pub enum Record {
     },
 }
 
+// The byte that a record's spelling begins with.
+pub(crate) const MAKE: u8 = 1;
+pub(crate) const PATCH: u8 = 2;
+pub(crate) const INSERT_SLOT: u8 = 3;
+pub(crate) const REMOVE_SLOT: u8 = 4;
+pub(crate) const CUT: u8 = 5;
+pub(crate) const LINK: u8 = 6;
+
 /// Changes in their order.
 pub type Records = Items<Record>;
 
