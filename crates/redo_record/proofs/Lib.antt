@@ -1,5 +1,9 @@
 pub mod Steps
 pub mod FieldReading
 pub mod RecordReading
-pub mod GroupReading
+pub mod RecordsReading
+pub mod HeaderReading
 pub mod RecordLoop
+pub mod GroupReading
+pub mod Refusing
+pub mod Decoded

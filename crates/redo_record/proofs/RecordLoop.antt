@@ -8,7 +8,7 @@ use Rattle.redo_record.specs.Reading.{record_at}
 use Rattle.redo_record.specs.Decoding.{◌>>=◌, records_at}
 use Rattle.redo_record.specs.Decodes.{DecodesFrom}
 use Rattle.redo_record.proofs.RecordReading.{record_takes}
-use Rattle.redo_record.proofs.GroupReading.{ok_some}
+use Rattle.redo_record.proofs.RecordsReading.{ok_some}
 
 -- what was read before, and what is still read
 abbrev pub with_front : List Record → Result (List Record × List ℕ) ℕ → Result (List Record × List ℕ) ℕ

@@ -14,3 +14,9 @@ abbrev pub DecodesFrom : {X : Type 0} → Result X DecodeNo → List ℕ → Res
 DecodesFrom (Ok x) rest found = found ≡ Ok (x, rest)
 DecodesFrom (Err (BadRecord b)) rest found = found ≡ Err b.at
 DecodesFrom (Err WantOfMemory) rest found = Unit {0}
+
+-- a fact for the offset of a refusal
+abbrev pub IfRefused : {X : Type 0} → Result X DecodeNo → (ℕ → Type 0) → Type 0
+IfRefused (Ok x) P = Unit {0}
+IfRefused (Err (BadRecord b)) P = P b.at
+IfRefused (Err WantOfMemory) P = Unit {0}

@@ -1,5 +1,5 @@
 -- The one spelling of each record, group and log in bytes. Numbers have their highest byte first.
-use Rattle.std.specs.Prelude.{◌≡◌, ◌≢◌, ◌≤◌, ◌<◌, ◌+◌, ◌-◌, ◌^◌, ℕ, List, [], ◌∷◌, ◌++◌, length}
+use Rattle.std.specs.Prelude.{◌≡◌, ◌≢◌, ◌≤◌, ◌<◌, ◌+◌, ◌-◌, ◌^◌, ℕ, List, [], ◌∷◌, ◌++◌, length, drop}
 use Rattle.std.specs.List.{flat_map, AllByRecursion}
 use Rattle.rm_base.specs.Fields.{field, AreBytes}
 use Rattle.page_image.specs.declared.kind.Kind.{Kind}
@@ -102,3 +102,9 @@ IsLog groups = AllByRecursion IsGroup groups
 pub record Spells (bytes : List ℕ) (groups : List Group) : Type 0 where
   pub groups_are : IsLog groups
   pub bytes_are : bytes ≡ log_bytes groups
+
+-- the first n bytes are the spelling of the group
+pub record BeginsWith (bytes : List ℕ) (g : Group) (n : ℕ) : Type 0 where
+  pub is_group : IsGroup g
+  pub size : n ≡ length (group_bytes g)
+  pub parts : bytes ≡ group_bytes g ++ drop n bytes

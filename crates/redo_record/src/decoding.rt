@@ -1,7 +1,9 @@
-ghost use Rattle.std.specs.Prelude.{◌≡◌, ◌≤◌, length, ok_or, ◌-◌};
+ghost use Rattle.std.specs.Prelude.{◌≡◌, ◌≤◌, ◌-◌, ◌++◌, ℕ, List, Ok, length, ok_or, IfOk};
 ghost use Rattle.redo_record.specs.Reading.{record_at};
 ghost use Rattle.redo_record.specs.Decoding.{records_at, group_at};
-ghost use Rattle.redo_record.specs.Decodes.{Decodes, DecodesFrom};
+ghost use Rattle.redo_record.specs.Decodes.{Decodes, DecodesFrom, IfRefused};
+ghost use Rattle.redo_record.specs.Spelling.{group_bytes, IsGroup, BeginsWith};
+ghost use Rattle.redo_record.specs.Refusal.{BeginsNoGroup, IsRefusedAt};
 
 use crate::reader::{Reader, Unread};
 use crate::redo::{Group, Record, Records};
@@ -82,7 +84,6 @@ fn next_records(
     Ok(records)
 }
 
-/// The group at the front of the bytes, and how many bytes it has.
 #[tactic(auto, unfolding(crate::specs::Decoding::group_at, crate::specs::Decoding::group_of))]
 fn group(alloc: Global, bytes: &[u8]) -> Result<(Group, usize), DecodeNo>
     ensures { Decodes result (group_at bytes.now) }
@@ -106,4 +107,23 @@ fn group(alloc: Global, bytes: &[u8]) -> Result<(Group, usize), DecodeNo>
         records,
     };
     Ok((group, size))
+}
+
+/// The group at the front of the bytes, and how many bytes it has. Bytes may follow it.
+pub fn decode(alloc: Global, bytes: &[u8]) -> Result<(Group, usize), DecodeNo>
+    // What is read is spelled so.
+    ensures found { IfOk result (λ read. BeginsWith bytes.now read.0 read.1) }
+
+    // What is spelled so is read, whatever follows it, unless memory runs out.
+    ensures again { (g : Group) (rest : List ℕ) → IsGroup g → bytes.now ≡ group_bytes g ++ rest
+        → Decodes result (Ok (g, length (group_bytes g))) }
+
+    // Only what begins no group is refused, and at the offset that the grammar says.
+    ensures no_group { IfRefused result (λ at. BeginsNoGroup bytes.now) }
+    ensures offset { IfRefused result (λ at. IsRefusedAt bytes.now at) }
+
+    // The same as a reading from left to right.
+    ensures exact { Decodes result (group_at bytes.now) }
+{
+    group(alloc, bytes)
 }
