@@ -10,9 +10,9 @@ use Rattle.rm_base.proofs.FieldLaws.{length-field, number-field, number-lt, fiel
 use Rattle.page_image.specs.declared.kind.Kind.{Kind}
 use Rattle.page_image.specs.declared.kind.Kind.TheVariants.{Unmade, Meta, Slots, Stamps, Leaf, Inner, Undo}
 use Rattle.page_image.specs.declared.TheConstants.{PAGE_BYTES, HEADER_BYTES}
-use Rattle.page_image.specs.Image.{LevelFits}
-use Rattle.redo_record.specs.Spelling.{kind_byte, counted, FitsPage}
-use Rattle.redo_record.specs.Reading.{byte_at, number_at, taken_at, page_number_at, kind_of, kind_at, level_fits, counted_at}
+use Rattle.page_image.specs.Image.{kind_number, kind_with, LevelFits}
+use Rattle.redo_record.specs.Spelling.{counted, FitsPage}
+use Rattle.redo_record.specs.Reading.{byte_at, number_at, taken_at, page_number_at, kind_at, level_fits, counted_at}
 use Rattle.redo_record.proofs.Steps.{bind_some, unless_some, then_some, some_is, one_of, AreBytes-front, Takes, Takes-then, Takes-fits}
 
 -- ---- one byte
@@ -80,20 +80,22 @@ page_again p rest h =
 
 -- ---- kinds and levels
 
-kind_of_is : (b : ℕ) (k : Kind) → kind_of b ≡ Some k → (b ≡ kind_byte k) × (k ≢ Unmade)
-kind_of_is b k e = grind (arith, nat_tests)
+-- the numbers from 1 to 6 are those of the kinds that pages are made of
+kind_with_is : (n : ℕ) → 1 ≤ n → n ≤ 6 → (n ≡ kind_number (kind_with n)) × (kind_with n ≢ Unmade)
+kind_with_is n first last = grind (arith, nat_tests)
 
-pub kind_takes : (bytes : List ℕ) (x : Kind × List ℕ) → kind_at bytes ≡ Some x → Takes bytes (kind_byte x.0 ∷ []) x.1 × (x.0 ≢ Unmade)
+pub kind_takes : (bytes : List ℕ) (x : Kind × List ℕ) → kind_at bytes ≡ Some x → Takes bytes (kind_number x.0 ∷ []) x.1 × (x.0 ≢ Unmade)
 unfolding kind_at
 kind_takes bytes x e =
-    let a = bind_some (byte_at bytes) (λ b. option_and_then (λ kind. Some (kind, b.1)) (kind_of b.0)) x e in
-    let c = bind_some (kind_of a.0.0) (λ kind. Some (kind, a.0.1)) x a.2 in
-    let is = kind_of_is a.0.0 c.0 c.1 in
-    let took : Takes bytes (kind_byte c.0 ∷ []) a.0.1 =
+    let a = bind_some (byte_at bytes) (λ n. cond (leb 1 n.0 && leb n.0 6) (Some (kind_with n.0, n.1)) None) x e in
+    let g = cond_some (leb 1 a.0.0 && leb a.0.0 6) (kind_with a.0.0, a.0.1) x a.2 in
+    let within = and_parts _ _ g.0 in
+    let is = kind_with_is a.0.0 (le_true _ _ within.0) (le_true _ _ within.1) in
+    let took : Takes bytes (kind_number (kind_with a.0.0) ∷ []) a.0.1 =
     subst (λ (b : ℕ). Takes bytes (b ∷ []) a.0.1) is.0 (byte_takes bytes a.0 a.1) in
-    subst (λ (y : Kind × List ℕ). Takes bytes (kind_byte y.0 ∷ []) y.1 × (y.0 ≢ Unmade)) (some_is (c.0, a.0.1) x c.2) (took, is.1)
+    subst (λ (y : Kind × List ℕ). Takes bytes (kind_number y.0 ∷ []) y.1 × (y.0 ≢ Unmade)) g.1 (took, is.1)
 
-pub kind_again : (k : Kind) (rest : List ℕ) → k ≢ Unmade → kind_at (kind_byte k ∷ rest) ≡ Some (k, rest)
+pub kind_again : (k : Kind) (rest : List ℕ) → k ≢ Unmade → kind_at (kind_number k ∷ rest) ≡ Some (k, rest)
 unfolding kind_at
 kind_again Unmade rest h = absurd (h refl)
 kind_again Meta rest h = refl

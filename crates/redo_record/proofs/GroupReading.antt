@@ -6,10 +6,11 @@ use Rattle.std.proofs.lemmas.List.{nil_from_length, take_at, take-append-drop, l
 use Rattle.rm_base.specs.Fields.{field, number, AreBytes}
 use Rattle.rm_base.proofs.FieldLaws.{length-field, number-lt}
 use Rattle.page_image.specs.declared.kind.Kind.{Kind}
+use Rattle.page_image.specs.Image.{kind_number}
 use Rattle.redo_record.specs.declared.redo.Record.{Record}
 use Rattle.redo_record.specs.declared.redo.Record.TheVariants.{Make, Patch, InsertSlot, RemoveSlot, Cut, Link}
 use Rattle.redo_record.specs.declared.redo.Group.{Group}
-use Rattle.redo_record.specs.Spelling.{kind_byte, counted, record_bytes, records_bytes, header_bytes, size_of, group_bytes, IsRecord, IsAdmitted, IsGroup, BeginsWith}
+use Rattle.redo_record.specs.Spelling.{counted, record_bytes, records_bytes, header_bytes, size_of, group_bytes, IsRecord, IsAdmitted, IsGroup, BeginsWith}
 use Rattle.redo_record.specs.Header.{Header, header_of, body_of, HasHeader}
 use Rattle.redo_record.specs.Decoding.{◌>>=◌, has_header, records_at, group_of, group_at}
 use Rattle.redo_record.proofs.Steps.{Takes}
@@ -24,7 +25,7 @@ length-counted bytes = omega (arith, length-append (field 2 (length bytes)) byte
 -- a record has at most 4,073 bytes
 pub record_bound : (r : Record) → IsAdmitted r → length (record_bytes r) ≤ 4073
 record_bound (Make page kind level) h =
-    omega (arith, length-append (field 4 page) (kind_byte kind ∷ level ∷ []), length-field 4 page)
+    omega (arith, length-append (field 4 page) (kind_number kind ∷ level ∷ []), length-field 4 page)
 record_bound (Patch page at bytes) h =
     omega (arith, length-append (field 4 page) (field 2 at ++ counted bytes), length-append (field 2 at) (counted bytes), length-field 4 page, length-field 2 at, length-counted bytes, h.1)
 record_bound (InsertSlot page index bytes) h =

@@ -2,8 +2,8 @@
 use Rattle.std.proofs.Common.{◌≡◌, ℕ, zero, suc, ◌-◌, ◌+◌, ◌≤◌, ◌<◌, List, [], ◌∷◌, ◌++◌, length, Option, Some, None, Result, Ok, Err, refl, sym, ap, ◌∙◌, append_assoc, append-nil, arith}
 use Rattle.std.specs.Prelude.{ok_or}
 use Rattle.redo_record.specs.declared.redo.Record.{Record}
-use Rattle.redo_record.specs.declared.decoding.DecodeNo.{DecodeNo}
-use Rattle.redo_record.specs.declared.decoding.DecodeNo.TheVariants.{BadRecord, WantOfMemory}
+use Rattle.redo_record.specs.declared.decoding.Stop.{Stop}
+use Rattle.redo_record.specs.declared.decoding.Stop.TheVariants.{BadRecord, WantOfMemory}
 use Rattle.redo_record.specs.Reading.{record_at}
 use Rattle.redo_record.specs.Decoding.{◌>>=◌, records_at}
 use Rattle.redo_record.specs.Decodes.{DecodesFrom}
@@ -43,7 +43,7 @@ goes_on end count counter front left r after total lt read reading =
     let took = record_takes left (r, after) (ok_some (record_at left) (end - length left) (r, after) read) in
     record { room = omega (arith, took.0.shorter, reading.room); so_far = sym one ∙ reading.so_far }
 
-pub ends : (e : DecodeNo) (end count counter : ℕ) (front : List Record) (left after : List ℕ) (rest : List ℕ) (total : Result (List Record × List ℕ) ℕ)
+pub ends : (e : Stop) (end count counter : ℕ) (front : List Record) (left after : List ℕ) (rest : List ℕ) (total : Result (List Record × List ℕ) ℕ)
     → counter < count → DecodesFrom {X = Record} (Err e) after (ok_or (record_at left) (end - length left))
     → IsReading end count counter front left total → DecodesFrom {X = List Record} (Err e) rest total
 unfolding records_at

@@ -4,10 +4,10 @@ use Rattle.std.proofs.lemmas.Option.{cond_some}
 use Rattle.rm_base.specs.Fields.{field, AreBytes}
 use Rattle.page_image.specs.declared.kind.Kind.{Kind}
 use Rattle.page_image.specs.declared.kind.Kind.TheVariants.{Unmade}
-use Rattle.page_image.specs.Image.{LevelFits}
+use Rattle.page_image.specs.Image.{kind_number, LevelFits}
 use Rattle.redo_record.specs.declared.redo.Record.{Record}
 use Rattle.redo_record.specs.declared.redo.Record.TheVariants.{Make, Patch, InsertSlot, RemoveSlot, Cut, Link}
-use Rattle.redo_record.specs.Spelling.{kind_byte, counted, record_bytes, FitsPage, IsTyped, IsAdmitted, IsRecord}
+use Rattle.redo_record.specs.Spelling.{counted, record_bytes, FitsPage, IsTyped, IsAdmitted, IsRecord}
 use Rattle.redo_record.specs.Reading.{◌>>=◌, byte_at, number_at, page_number_at, kind_at, level_fits, counted_at, make_at, patch_at, insert_at, remove_at, cut_at, link_at, fields_at, record_at}
 use Rattle.redo_record.specs.Refusal.{BeginsNoRecord}
 use Rattle.redo_record.proofs.Steps.{bind_some, some_is, one_of, AreBytes-rest, AreBytes-front, Takes, Takes-then, Takes-fits}
@@ -41,11 +41,11 @@ make_takes bytes x e =
     let page = page_takes bytes a.0 a.1 in
     let kind = kind_takes a.0.1 b.0 b.1 in
     let level = byte_takes b.0.1 c.0 c.1 in
-    let last = Takes-then a.0.1 (kind_byte b.0.0 ∷ []) b.0.1 (c.0.0 ∷ []) c.0.1 kind.0 level in
-    let all = Takes-then bytes (field 4 a.0.0) a.0.1 (kind_byte b.0.0 ∷ c.0.0 ∷ []) c.0.1 page.0 last in
+    let last = Takes-then a.0.1 (kind_number b.0.0 ∷ []) b.0.1 (c.0.0 ∷ []) c.0.1 kind.0 level in
+    let all = Takes-then bytes (field 4 a.0.0) a.0.1 (kind_number b.0.0 ∷ c.0.0 ∷ []) c.0.1 page.0 last in
     as_read 1 bytes (Make a.0.0 b.0.0 c.0.0, c.0.1) x
     (record {
-      took = Takes-cons 1 bytes (field 4 a.0.0 ++ (kind_byte b.0.0 ∷ c.0.0 ∷ [])) c.0.1 all;
+      took = Takes-cons 1 bytes (field 4 a.0.0 ++ (kind_number b.0.0 ∷ c.0.0 ∷ [])) c.0.1 all;
       is_record = λ fits. (page.1, (kind.1, level_is b.0.0 c.0.0 g.0));
     })
     g.1
@@ -165,10 +165,10 @@ record_takes (b ∷ rest) x e =
     let t = fields_take b rest x e in (t.took, λ fits. t.is_record (λ k. fits (suc k)))
 
 make_again : (page : ℕ) (kind : Kind) (level : ℕ) (rest : List ℕ) → page ≤ 32767 → kind ≢ Unmade → LevelFits kind level
-    → make_at (field 4 page ++ (kind_byte kind ∷ level ∷ rest)) ≡ Some (Make page kind level, rest)
+    → make_at (field 4 page ++ (kind_number kind ∷ level ∷ rest)) ≡ Some (Make page kind level, rest)
 unfolding make_at
 make_again page kind level rest small made fits =
-    rw (page_again page (kind_byte kind ∷ level ∷ rest) small, kind_again kind (level ∷ rest) made, level_again kind level fits) refl
+    rw (page_again page (kind_number kind ∷ level ∷ rest) small, kind_again kind (level ∷ rest) made, level_again kind level fits) refl
 
 patch_again : (page at : ℕ) (new rest : List ℕ) → page ≤ 32767 → at < 2 ^ 16 → FitsPage new
     → patch_at (field 4 page ++ (field 2 at ++ (counted new ++ rest))) ≡ Some (Patch page at new, rest)
@@ -205,7 +205,7 @@ three_parts a b c rest = append_assoc a (b ++ c) rest ∙ ap (λ (t : List ℕ).
 pub record_again : (r : Record) (rest : List ℕ) → IsRecord r → record_at (record_bytes r ++ rest) ≡ Some (r, rest)
 unfolding record_at
 record_again (Make page kind level) rest h =
-    ap make_at (append_assoc (field 4 page) (kind_byte kind ∷ level ∷ []) rest) ∙ make_again page kind level rest h.0 h.1.0 h.1.1
+    ap make_at (append_assoc (field 4 page) (kind_number kind ∷ level ∷ []) rest) ∙ make_again page kind level rest h.0 h.1.0 h.1.1
 record_again (Patch page at new) rest h =
     ap patch_at (three_parts (field 4 page) (field 2 at) (counted new) rest) ∙ patch_again page at new rest h.0.0 h.0.1 h.1
 record_again (InsertSlot page index item) rest h =

@@ -2,8 +2,9 @@
 use Rattle.std.specs.Prelude.{ℕ, ◌-◌, Bool, List, [], ◌∷◌, length, take, drop, Option, Some, None, option_and_then, nat_lt, nat_le, ◌==◌, ◌&&◌, if◌then◌else◌}
 use Rattle.rm_base.specs.Fields.{number}
 use Rattle.page_image.specs.declared.kind.Kind.{Kind}
-use Rattle.page_image.specs.declared.kind.Kind.TheVariants.{Unmade, Meta, Slots, Stamps, Leaf, Inner, Undo}
+use Rattle.page_image.specs.declared.kind.Kind.TheVariants.{Inner}
 use Rattle.page_image.specs.declared.TheConstants.{PAGE_BYTES, HEADER_BYTES}
+use Rattle.page_image.specs.Image.{kind_with}
 use Rattle.redo_record.specs.declared.redo.Record.{Record}
 use Rattle.redo_record.specs.declared.redo.Record.TheVariants.{Make, Patch, InsertSlot, RemoveSlot, Cut, Link}
 
@@ -30,22 +31,11 @@ page_number_at bytes = do
   n ← number_at 4 bytes
   if nat_le n.0 32767 then Some n else None
 
--- the kind that a byte stands for; nothing is made unmade
-abbrev pub kind_of : ℕ → Option Kind
-kind_of b =
-    if b == 1 then Some Meta
-    else (if b == 2 then Some Slots
-    else (if b == 3 then Some Stamps
-    else (if b == 4 then Some Leaf
-    else (if b == 5 then Some Inner
-    else (if b == 6 then Some Undo
-    else None)))))
-
+-- the kind that a page is made of; nothing is made unmade
 unfoldable pub kind_at : List ℕ → Option (Kind × List ℕ)
 kind_at bytes = do
-  b ← byte_at bytes
-  kind ← kind_of b.0
-  Some (kind, b.1)
+  n ← byte_at bytes
+  if nat_le 1 n.0 && nat_le n.0 6 then Some (kind_with n.0, n.1) else None
 
 -- an inner page is at level 1 to 8, every other at 0
 abbrev pub level_fits : Kind → ℕ → Bool

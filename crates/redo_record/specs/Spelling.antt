@@ -3,22 +3,12 @@ use Rattle.std.specs.Prelude.{◌≡◌, ◌≢◌, ◌≤◌, ◌<◌, ◌+◌,
 use Rattle.std.specs.List.{flat_map, AllByRecursion}
 use Rattle.rm_base.specs.Fields.{field, AreBytes}
 use Rattle.page_image.specs.declared.kind.Kind.{Kind}
-use Rattle.page_image.specs.declared.kind.Kind.TheVariants.{Unmade, Meta, Slots, Stamps, Leaf, Inner, Undo}
+use Rattle.page_image.specs.declared.kind.Kind.TheVariants.{Unmade}
 use Rattle.page_image.specs.declared.TheConstants.{PAGE_BYTES, HEADER_BYTES}
-use Rattle.page_image.specs.Image.{LevelFits}
+use Rattle.page_image.specs.Image.{kind_number, LevelFits}
 use Rattle.redo_record.specs.declared.redo.Record.{Record}
 use Rattle.redo_record.specs.declared.redo.Record.TheVariants.{Make, Patch, InsertSlot, RemoveSlot, Cut, Link}
 use Rattle.redo_record.specs.declared.redo.Group.{Group}
-
--- the byte of a page's kind
-abbrev pub kind_byte : Kind → ℕ
-kind_byte Unmade = 0
-kind_byte Meta = 1
-kind_byte Slots = 2
-kind_byte Stamps = 3
-kind_byte Leaf = 4
-kind_byte Inner = 5
-kind_byte Undo = 6
 
 -- bytes behind their number
 abbrev pub counted : List ℕ → List ℕ
@@ -26,7 +16,7 @@ counted bytes = field 2 (length bytes) ++ bytes
 
 -- a record: the byte of what it does, its page, and its own fields
 abbrev pub record_bytes : Record → List ℕ
-record_bytes (Make page kind level) = 1 ∷ (field 4 page ++ (kind_byte kind ∷ level ∷ []))
+record_bytes (Make page kind level) = 1 ∷ (field 4 page ++ (kind_number kind ∷ level ∷ []))
 record_bytes (Patch page at bytes) = 2 ∷ (field 4 page ++ (field 2 at ++ counted bytes))
 record_bytes (InsertSlot page index bytes) = 3 ∷ (field 4 page ++ (field 2 index ++ counted bytes))
 record_bytes (RemoveSlot page index) = 4 ∷ (field 4 page ++ field 2 index)

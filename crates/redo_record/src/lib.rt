@@ -7,5 +7,5 @@ mod reader;
 mod record_reader;
 mod redo;
 
-pub use decoding::{BadRecord, DecodeNo, decode};
+pub use decoding::{BadRecord, decode};
 pub use redo::{Group, Groups, Record, Records};

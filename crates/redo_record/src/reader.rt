@@ -1,6 +1,6 @@
 ghost use Rattle.std.specs.Prelude.{◌≡◌, ◌↔◌, IsTrue, [], length, Some};
 ghost use Rattle.page_image.specs.Image.{LevelFits};
-ghost use Rattle.redo_record.specs.Reading.{kind_of, level_fits, byte_at, number_at, page_number_at, kind_at, counted_at};
+ghost use Rattle.redo_record.specs.Reading.{level_fits, byte_at, number_at, page_number_at, kind_at, counted_at};
 ghost use Rattle.redo_record.specs.Reads.{Reads};
 
 use page_image::{HEADER_BYTES, Kind, PAGE_BYTES};
@@ -122,12 +122,16 @@ impl<'a> Reader<'a> {
         Ok(number)
     }
 
+    /// The kind that a page is made of.
     #[tactic(auto, unfolding(crate::specs::Reading::kind_at))]
     pub fn kind(&mut self) -> Result<Kind, Unread>
         ensures { Reads result self.new (kind_at self.old) }
     {
-        let byte = self.u8()?;
-        match made_kind(byte) {
+        let number = self.u8()?;
+        if number < 1 {
+            return Err(Unread::Malformed);
+        }
+        match Kind::from_number(number) {
             Some(kind) => Ok(kind),
             None => Err(Unread::Malformed),
         }
@@ -146,21 +150,6 @@ impl<'a> Reader<'a> {
         bytes.append(&self.bytes[..n])?;
         self.bytes = &self.bytes[n..];
         Ok(bytes)
-    }
-}
-
-/// The kind that a byte stands for, if a page can be made one of that kind.
-pub fn made_kind(byte: u8) -> Option<Kind>
-    ensures { result ≡ kind_of byte }
-{
-    match byte {
-        1 => Some(Kind::Meta),
-        2 => Some(Kind::Slots),
-        3 => Some(Kind::Stamps),
-        4 => Some(Kind::Leaf),
-        5 => Some(Kind::Inner),
-        6 => Some(Kind::Undo),
-        _ => None,
     }
 }
 
