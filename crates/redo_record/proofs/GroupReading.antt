@@ -84,19 +84,19 @@ group_was bytes h rs fits each count body =
     ap (λ (n : ℕ). header_bytes n head.lsn head.count) (sym size) ∙ ap (λ (n : ℕ). header_bytes (size_of g) head.lsn n) (sym count) in
     record {
       is_group =
-        record {
-          first = h.first;
-          bound = number-lt 8 (drop 4 bytes) (AreBytes-drop 4 bytes fits);
-          some = rw count h.some;
-          most = let few : head.count < 2 ^ 16 = number-lt 2 (drop 12 bytes) (AreBytes-drop 12 bytes fits) in omega (arith, count);
-          each = each;
-        };
+          record {
+            first = h.first;
+            bound = number-lt 8 (drop 4 bytes) (AreBytes-drop 4 bytes fits);
+            some = rw count h.some;
+            most = let few : head.count < 2 ^ 16 = number-lt 2 (drop 12 bytes) (AreBytes-drop 12 bytes fits) in omega (arith, count);
+            each = each;
+          };
       size = sym size ∙ sym (length-group_bytes g);
       parts =
-        header_parts bytes fits h.whole
-        ∙ ap (λ (t : List ℕ). t ++ drop 14 bytes) named
-        ∙ ap (λ (t : List ℕ). header_bytes (size_of g) g.lsn (length g.records) ++ t) (body_parts bytes h ∙ ap (λ (t : List ℕ). t ++ drop head.size bytes) body)
-        ∙ sym (append_assoc (header_bytes (size_of g) g.lsn (length g.records)) (records_bytes rs) (drop head.size bytes));
+          header_parts bytes fits h.whole
+          ∙ ap (λ (t : List ℕ). t ++ drop 14 bytes) named
+          ∙ ap (λ (t : List ℕ). header_bytes (size_of g) g.lsn (length g.records) ++ t) (body_parts bytes h ∙ ap (λ (t : List ℕ). t ++ drop head.size bytes) body)
+          ∙ sym (append_assoc (header_bytes (size_of g) g.lsn (length g.records)) (records_bytes rs) (drop head.size bytes));
     }
 
 pub group_takes : (bytes : List ℕ) (x : Group × ℕ) → AreBytes bytes → group_at bytes ≡ Ok x → BeginsWith bytes x.0 x.1

@@ -65,9 +65,9 @@ patch_takes bytes x e =
     (record {
       took = Takes-cons 2 bytes (field 4 a.0.0 ++ (field 2 b.0.0 ++ counted c.0.0)) c.0.1 all;
       is_record = λ fits.
-        let after_page = Takes-fits bytes (field 4 a.0.0) a.0.1 page.0 fits in
-        let after_at = Takes-fits a.0.1 (field 2 b.0.0) b.0.1 at.0 after_page in
-        ((page.1, at.1 after_page, counted_fits b.0.1 c.0.0 c.0.1 new.0 after_at), new.1);
+          let after_page = Takes-fits bytes (field 4 a.0.0) a.0.1 page.0 fits in
+          let after_at = Takes-fits a.0.1 (field 2 b.0.0) b.0.1 at.0 after_page in
+          ((page.1, at.1 after_page, counted_fits b.0.1 c.0.0 c.0.1 new.0 after_at), new.1);
     })
     (some_is (Patch a.0.0 b.0.0 c.0.0, c.0.1) x c.2)
 
@@ -86,9 +86,9 @@ insert_takes bytes x e =
     (record {
       took = Takes-cons 3 bytes (field 4 a.0.0 ++ (field 2 b.0.0 ++ counted c.0.0)) c.0.1 all;
       is_record = λ fits.
-        let after_page = Takes-fits bytes (field 4 a.0.0) a.0.1 page.0 fits in
-        let after_index = Takes-fits a.0.1 (field 2 b.0.0) b.0.1 index.0 after_page in
-        ((page.1, index.1 after_page, counted_fits b.0.1 c.0.0 c.0.1 item.0 after_index), item.1);
+          let after_page = Takes-fits bytes (field 4 a.0.0) a.0.1 page.0 fits in
+          let after_index = Takes-fits a.0.1 (field 2 b.0.0) b.0.1 index.0 after_page in
+          ((page.1, index.1 after_page, counted_fits b.0.1 c.0.0 c.0.1 item.0 after_index), item.1);
     })
     (some_is (InsertSlot a.0.0 b.0.0 c.0.0, c.0.1) x c.2)
 

@@ -104,22 +104,22 @@ records_bad end zero bytes at fits e = absurd cc
 records_bad end (suc n) bytes at fits e =
     elim (bind_err (ok_or (record_at bytes) (end - length bytes)) (λ first. records_at end n first.1 >>= λ others. Ok (first.0 ∷ others.0, others.1)) at e) [
       | inl bad ↦
-        let none = err_none (record_at bytes) (end - length bytes) at bad in
-        record { records = []; rest = bytes; each = tt; bytes_are = refl; fewer = omega arith; none = none.0; there = sym none.1 }
+          let none = err_none (record_at bytes) (end - length bytes) at bad in
+          record { records = []; rest = bytes; each = tt; bytes_are = refl; fewer = omega arith; none = none.0; there = sym none.1 }
       | inr a ↦
-        elim (bind_err (records_at end n a.0.1) (λ others. Ok (a.0.0 ∷ others.0, others.1)) at a.2) [
-          | inl bad ↦
-            let first = record_takes bytes a.0 (ok_some (record_at bytes) (end - length bytes) a.0 a.1) in
-            let stops = records_bad end n a.0.1 at (Takes-fits bytes (record_bytes a.0.0) a.0.1 first.0 fits) bad in
-            record {
-              records = a.0.0 ∷ stops.records;
-              rest = stops.rest;
-              each = (first.1 fits, stops.each);
-              bytes_are = first.0.parts fits ∙ ap (λ (t : List ℕ). record_bytes a.0.0 ++ t) stops.bytes_are ∙ sym (one_more a.0.0 stops.records stops.rest);
-              fewer = omega (arith, stops.fewer);
-              none = stops.none;
-              there = stops.there;
-            }
-          | inr b ↦ absurd cc
-        ]
+          elim (bind_err (records_at end n a.0.1) (λ others. Ok (a.0.0 ∷ others.0, others.1)) at a.2) [
+            | inl bad ↦
+                let first = record_takes bytes a.0 (ok_some (record_at bytes) (end - length bytes) a.0 a.1) in
+                let stops = records_bad end n a.0.1 at (Takes-fits bytes (record_bytes a.0.0) a.0.1 first.0 fits) bad in
+                record {
+                  records = a.0.0 ∷ stops.records;
+                  rest = stops.rest;
+                  each = (first.1 fits, stops.each);
+                  bytes_are = first.0.parts fits ∙ ap (λ (t : List ℕ). record_bytes a.0.0 ++ t) stops.bytes_are ∙ sym (one_more a.0.0 stops.records stops.rest);
+                  fewer = omega (arith, stops.fewer);
+                  none = stops.none;
+                  there = stops.there;
+                }
+            | inr b ↦ absurd cc
+          ]
     ]

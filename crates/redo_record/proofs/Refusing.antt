@@ -48,24 +48,24 @@ refused_is bytes at fits e =
     elim (when_err (has_header bytes) (group_of (header_of bytes) (body_of bytes)) 0 at e) [
       | inr none ↦ inl (record { none = λ h. let has = header_again bytes h in absurd cc; there = sym none.1 })
       | inl there ↦
-        let h = header_is bytes there.0 in
-        inr (elim (bind_err (records_at (header_of bytes).size (header_of bytes).count (body_of bytes)) (λ read. cond (eqb (length read.1) 0) (Ok (made_group (header_of bytes) read.0)) (Err 0)) at there.1) [
-          | inl bad ↦ inl (bad_record bytes at h (records_bad (header_of bytes).size (header_of bytes).count (body_of bytes) at (body_fits bytes fits) bad))
-          | inr a ↦
-            elim (when_err (eqb (length a.0.1) 0) (Ok (made_group (header_of bytes) a.0.0)) 0 at a.2) [
-              | inl never ↦ absurd cc
-              | inr over ↦
-                let t = records_take (header_of bytes).size (header_of bytes).count (body_of bytes) a.0 a.1 in
-                inr (record {
-                  records = a.0.0;
-                  rest = a.0.1;
-                  starts = record { header = h; each = t.each (body_fits bytes fits); body = t.took.parts (body_fits bytes fits) };
-                  all = t.count;
-                  some = not_nil a.0.1 over.0;
-                  there = sym over.1;
-                })
-            ]
-        ])
+          let h = header_is bytes there.0 in
+          inr (elim (bind_err (records_at (header_of bytes).size (header_of bytes).count (body_of bytes)) (λ read. cond (eqb (length read.1) 0) (Ok (made_group (header_of bytes) read.0)) (Err 0)) at there.1) [
+            | inl bad ↦ inl (bad_record bytes at h (records_bad (header_of bytes).size (header_of bytes).count (body_of bytes) at (body_fits bytes fits) bad))
+            | inr a ↦
+                elim (when_err (eqb (length a.0.1) 0) (Ok (made_group (header_of bytes) a.0.0)) 0 at a.2) [
+                  | inl never ↦ absurd cc
+                  | inr over ↦
+                      let t = records_take (header_of bytes).size (header_of bytes).count (body_of bytes) a.0 a.1 in
+                      inr (record {
+                        records = a.0.0;
+                        rest = a.0.1;
+                        starts = record { header = h; each = t.each (body_fits bytes fits); body = t.took.parts (body_fits bytes fits) };
+                        all = t.count;
+                        some = not_nil a.0.1 over.0;
+                        there = sym over.1;
+                      })
+                ]
+          ])
     ]
 
 -- ---- a refusal of the grammar is one of the reading

@@ -6,7 +6,7 @@ ghost use Rattle.redo_record.specs.Spelling.{group_bytes, IsGroup, BeginsWith};
 ghost use Rattle.redo_record.specs.Refusal.{BeginsNoGroup, IsRefusedAt};
 
 use crate::reader::{Reader, Unread};
-use crate::redo::{Group, Record, Records};
+use crate::redo::{GROUP_HEADER_BYTES, Group, Record, Records};
 use rm_base::{Items, Lsn, WantOfMemory, get_u16, get_u32, get_u64};
 use std::alloc::Global;
 use thiserror::Error;
@@ -38,9 +38,6 @@ impl From<WantOfMemory> for Stop {
     }
 }
 
-/// How many bytes a group has before its records.
-const GROUP_HEADER_BYTES: usize = 14;
-
 /// The next record. `end` is the offset at which the reader's bytes end.
 fn next_record(reader: &mut Reader, alloc: Global, end: usize) -> Result<Record, Stop>
     requires { length reader.old ≤ end }
@@ -54,12 +51,7 @@ fn next_record(reader: &mut Reader, alloc: Global, end: usize) -> Result<Record,
     }
 }
 
-fn next_records(
-    reader: &mut Reader,
-    alloc: Global,
-    end: usize,
-    count: u16,
-) -> Result<Records, Stop>
+fn next_records(reader: &mut Reader, alloc: Global, end: usize, count: u16) -> Result<Records, Stop>
     requires { length reader.old ≤ end }
     ensures { DecodesFrom result reader.new (records_at end count reader.old) }
 {

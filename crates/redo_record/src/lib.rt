@@ -3,9 +3,11 @@
 #![tactic(auto)]
 
 mod decoding;
+mod encoding;
 mod reader;
 mod record_reader;
 mod redo;
 
 pub use decoding::{BadRecord, decode};
+pub use encoding::encode;
 pub use redo::{Group, Groups, Record, Records};

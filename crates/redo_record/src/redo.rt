@@ -42,11 +42,19 @@ pub enum Record {
 
 // The byte that a record's spelling begins with.
 pub(crate) const MAKE: u8 = 1;
+
 pub(crate) const PATCH: u8 = 2;
+
 pub(crate) const INSERT_SLOT: u8 = 3;
+
 pub(crate) const REMOVE_SLOT: u8 = 4;
+
 pub(crate) const CUT: u8 = 5;
+
 pub(crate) const LINK: u8 = 6;
+
+/// How many bytes a group has before its records.
+pub(crate) const GROUP_HEADER_BYTES: usize = 14;
 
 /// Changes in their order.
 pub type Records = Items<Record>;

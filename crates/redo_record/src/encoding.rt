@@ -1,0 +1,124 @@
+ghost use Rattle.std.specs.Prelude.{◌≡◌, ◌≤◌, ◌<◌, ◌+◌, ◌++◌, ◌^◌, length, OnOk, OnErr, IfOk};
+ghost use Rattle.std.specs.List.{AllByRecursion};
+ghost use Rattle.rm_base.specs.Fields.{field, AreBytes};
+ghost use Rattle.redo_record.specs.Spelling.{counted, record_bytes, records_bytes, group_bytes, FitsPage, IsAdmitted, IsRecord, IsGroup, IsEncodable};
+
+use crate::redo::{
+    CUT, GROUP_HEADER_BYTES, Group, INSERT_SLOT, LINK, MAKE, PATCH, REMOVE_SLOT, Record,
+};
+use rm_base::{Bytes, Items, WantOfMemory, put_u16, put_u32, put_u64};
+use std::alloc::Global;
+
+fn push_u16(out: &mut Bytes, v: u16) -> Result<(), WantOfMemory>
+    ensures { OnOk result (out.new ≡ out.old ++ field 2 v) }
+{
+    let mut bytes = [0; 2];
+    put_u16(&mut bytes, 0, v);
+    out.append(&bytes)
+}
+
+fn push_u32(out: &mut Bytes, v: u32) -> Result<(), WantOfMemory>
+    ensures { OnOk result (out.new ≡ out.old ++ field 4 v) }
+{
+    let mut bytes = [0; 4];
+    put_u32(&mut bytes, 0, v);
+    out.append(&bytes)
+}
+
+fn push_u64(out: &mut Bytes, v: u64) -> Result<(), WantOfMemory>
+    ensures { OnOk result (out.new ≡ out.old ++ field 8 v) }
+{
+    let mut bytes = [0; 8];
+    put_u64(&mut bytes, 0, v);
+    out.append(&bytes)
+}
+
+/// Bytes behind their number.
+fn push_counted(out: &mut Bytes, bytes: &[u8]) -> Result<(), WantOfMemory>
+    requires { FitsPage bytes.now }
+    ensures spelled { OnOk result (out.new ≡ out.old ++ counted bytes.now) }
+    ensures are_bytes { AreBytes bytes.now }
+{
+    push_u16(out, bytes.len() as u16)?;
+    out.append(bytes)?;
+    Ok(())
+}
+
+fn push_record(out: &mut Bytes, r: &Record) -> Result<(), WantOfMemory>
+    requires { IsAdmitted r.now }
+    ensures spelled { OnOk result (out.new ≡ out.old ++ record_bytes r.now) }
+    ensures is_record { OnOk result (IsRecord r.now) }
+{
+    match r {
+        Record::Make { page, kind, level } => {
+            out.push(MAKE)?;
+            push_u32(out, page.number())?;
+            out.push(kind.number())?;
+            out.push(*level)?;
+            Ok(())
+        }
+        Record::Patch { page, at, bytes } => {
+            out.push(PATCH)?;
+            push_u32(out, page.number())?;
+            push_u16(out, *at)?;
+            push_counted(out, bytes.as_slice())?;
+            Ok(())
+        }
+        Record::InsertSlot { page, index, bytes } => {
+            out.push(INSERT_SLOT)?;
+            push_u32(out, page.number())?;
+            push_u16(out, *index)?;
+            push_counted(out, bytes.as_slice())?;
+            Ok(())
+        }
+        Record::RemoveSlot { page, index } => {
+            out.push(REMOVE_SLOT)?;
+            push_u32(out, page.number())?;
+            push_u16(out, *index)?;
+            Ok(())
+        }
+        Record::Cut { page, from } => {
+            out.push(CUT)?;
+            push_u32(out, page.number())?;
+            push_u16(out, *from)?;
+            Ok(())
+        }
+        Record::Link { page, next } => {
+            out.push(LINK)?;
+            push_u32(out, page.number())?;
+            push_u32(out, *next)?;
+            Ok(())
+        }
+    }
+}
+
+/// The records one after the other.
+fn records_aside(alloc: Global, records: &[Record]) -> Result<Bytes, WantOfMemory>
+    requires { AllByRecursion IsAdmitted records.now }
+    ensures spelled { IfOk result (λ out. out ≡ records_bytes records.now) }
+    ensures are_records { OnOk result (AllByRecursion IsRecord records.now) }
+{
+    let mut out = Items::new(alloc);
+    for r in records {
+        push_record(&mut out, r)?;
+    }
+    Ok(out)
+}
+
+/// Appends the group's spelling.
+pub fn encode(alloc: Global, g: &Group, out: &mut Bytes) -> Result<(), WantOfMemory>
+    requires { IsEncodable g.now }
+    ensures spelled { OnOk result (out.new ≡ out.old ++ group_bytes g.now) }
+    ensures err { OnErr result (out.new ≡ out.old) }
+
+    // What was spelled is read again, since the fields of any group are of their types.
+    ensures is_group { OnOk result (IsGroup g.now) }
+{
+    let records = records_aside(alloc, g.records.as_slice())?;
+    let mut group = Items::new(alloc);
+    push_u32(&mut group, (GROUP_HEADER_BYTES + records.len()) as u32)?;
+    push_u64(&mut group, g.lsn.number())?;
+    push_u16(&mut group, g.records.len() as u16)?;
+    group.append(records.as_slice())?;
+    out.append(group.as_slice())
+}
