@@ -2,12 +2,14 @@
 //! page.
 #![tactic(auto)]
 
+mod applying;
 mod decoding;
 mod encoding;
 mod reader;
 mod record_reader;
 mod redo;
 
+pub use applying::{BadApply, apply};
 pub use decoding::{BadRecord, decode};
 pub use encoding::encode;
 pub use redo::{Group, Groups, Record, Records};
