@@ -1,6 +1,6 @@
 -- A field that is read is spelled so, and a field that is spelled is read, whatever follows.
-use Rattle.std.proofs.Common.{◌≡◌, ◌≢◌, ◌≤◌, ◌<◌, ◌+◌, ◌-◌, ◌^◌, ℕ, zero, suc, Bool, true, false, cond, ltb, eqb, leb, List, [], ◌∷◌, ◌++◌, length, take, drop, Option, Some, None, ◌⊎◌, inl, inr, refl, sym, ap, subst, ◌∙◌, append_assoc, arith}
-use Rattle.std.specs.Prelude.{nat_le, nat_lt, ◌&&◌, option_and_then}
+use Rattle.std.proofs.Common.{◌≡◌, ◌≢◌, ◌≤◌, ◌<◌, ◌-◌, ◌^◌, ℕ, true, false, cond, ltb, leb, List, [], ◌∷◌, ◌++◌, length, take, drop, Some, None, refl, sym, ap, subst, ◌∙◌, append_assoc, arith}
+use Rattle.std.specs.Prelude.{◌&&◌}
 use Rattle.std.proofs.lemmas.Bool.{ltb-false, le-ltb, and_parts, eqb-true}
 use Rattle.std.proofs.lemmas.Bool.Decides.{nat_tests}
 use Rattle.std.proofs.lemmas.Option.{cond_some}
@@ -13,7 +13,7 @@ use Rattle.page_image.specs.declared.TheConstants.{PAGE_BYTES, HEADER_BYTES}
 use Rattle.page_image.specs.Image.{kind_number, kind_with, LevelFits}
 use Rattle.redo_record.specs.Spelling.{counted, FitsPage}
 use Rattle.redo_record.specs.Reading.{byte_at, number_at, taken_at, page_number_at, kind_at, level_fits, counted_at}
-use Rattle.redo_record.proofs.Steps.{bind_some, unless_some, then_some, some_is, one_of, AreBytes-front, Takes, Takes-then, Takes-fits}
+use Rattle.redo_record.proofs.Steps.{bind_some, unless_some, then_some, Takes, Takes-then}
 
 -- ---- one byte
 

@@ -1,20 +1,18 @@
 -- Groups: what is read is spelled so, and what is spelled is read, whatever follows.
-use Rattle.std.proofs.Common.{◌≡◌, ◌≢◌, ◌≤◌, ◌<◌, ◌+◌, ◌-◌, ◌*◌, ◌^◌, ℕ, zero, suc, Bool, true, false, cond, eqb, leb, List, [], ◌∷◌, ◌++◌, length, take, drop, Result, Ok, Err, refl, sym, ap, subst, ◌∙◌, append_assoc, append-nil, arith}
+use Rattle.std.proofs.Common.{◌≡◌, ◌≤◌, ◌<◌, ◌+◌, ◌-◌, ◌*◌, ◌^◌, ℕ, Bool, true, false, cond, eqb, List, [], ◌∷◌, ◌++◌, length, take, drop, Result, Ok, Err, refl, sym, ap, subst, ◌∙◌, append_assoc, append-nil, arith}
 use Rattle.std.specs.List.{AllByRecursion}
 use Rattle.std.proofs.lemmas.Bool.{eqb-true}
 use Rattle.std.proofs.lemmas.List.{nil_from_length, take_at, take-append-drop, length-append, length-take, length-drop, drop-drop}
-use Rattle.rm_base.specs.Fields.{field, number, AreBytes}
+use Rattle.rm_base.specs.Fields.{field, AreBytes}
 use Rattle.rm_base.proofs.FieldLaws.{length-field, number-lt}
-use Rattle.page_image.specs.declared.kind.Kind.{Kind}
 use Rattle.page_image.specs.Image.{kind_number}
 use Rattle.redo_record.specs.declared.redo.Record.{Record}
 use Rattle.redo_record.specs.declared.redo.Record.TheVariants.{Make, Patch, InsertSlot, RemoveSlot, Cut, Link}
 use Rattle.redo_record.specs.declared.redo.Group.{Group}
 use Rattle.redo_record.specs.Spelling.{counted, record_bytes, records_bytes, header_bytes, size_of, group_bytes, IsRecord, IsAdmitted, IsGroup, BeginsWith}
 use Rattle.redo_record.specs.Header.{Header, header_of, body_of, HasHeader}
-use Rattle.redo_record.specs.Decoding.{◌>>=◌, has_header, records_at, group_of, group_at}
-use Rattle.redo_record.proofs.Steps.{Takes}
-use Rattle.redo_record.proofs.RecordsReading.{bind_ok, ok_is, TakesRecords, records_take, records_again}
+use Rattle.redo_record.specs.Decoding.{has_header, records_at, group_of, group_at}
+use Rattle.redo_record.proofs.RecordsReading.{bind_ok, ok_is, records_take, records_again}
 use Rattle.redo_record.proofs.HeaderReading.{header_is, header_again, AreBytes-drop, AreBytes-take, header_parts, header_reads, rest_behind, length-header_bytes}
 
 -- ---- sizes

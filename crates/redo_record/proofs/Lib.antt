@@ -7,3 +7,6 @@ pub mod RecordLoop
 pub mod GroupReading
 pub mod Refusing
 pub mod Decoded
+pub mod Fold
+pub mod Merging
+pub mod Logs

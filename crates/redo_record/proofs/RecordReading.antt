@@ -1,5 +1,5 @@
 -- A record that is read is spelled so, and a record that is spelled is read, whatever follows.
-use Rattle.std.proofs.Common.{◌≡◌, ◌≢◌, ◌≤◌, ◌<◌, ◌+◌, ◌-◌, ◌^◌, ℕ, zero, suc, Bool, true, false, cond, List, [], ◌∷◌, ◌++◌, length, Option, Some, None, ◌⊎◌, inl, inr, refl, sym, ap, subst, ◌∙◌, append_assoc, arith}
+use Rattle.std.proofs.Common.{◌≡◌, ◌≢◌, ◌≤◌, ◌<◌, ◌^◌, ℕ, suc, cond, List, [], ◌∷◌, ◌++◌, length, Option, Some, None, inl, inr, refl, sym, ap, subst, ◌∙◌, append_assoc, arith}
 use Rattle.std.proofs.lemmas.Option.{cond_some}
 use Rattle.rm_base.specs.Fields.{field, AreBytes}
 use Rattle.page_image.specs.declared.kind.Kind.{Kind}
@@ -7,7 +7,7 @@ use Rattle.page_image.specs.declared.kind.Kind.TheVariants.{Unmade}
 use Rattle.page_image.specs.Image.{kind_number, LevelFits}
 use Rattle.redo_record.specs.declared.redo.Record.{Record}
 use Rattle.redo_record.specs.declared.redo.Record.TheVariants.{Make, Patch, InsertSlot, RemoveSlot, Cut, Link}
-use Rattle.redo_record.specs.Spelling.{counted, record_bytes, FitsPage, IsTyped, IsAdmitted, IsRecord}
+use Rattle.redo_record.specs.Spelling.{counted, record_bytes, FitsPage, IsRecord}
 use Rattle.redo_record.specs.Reading.{◌>>=◌, byte_at, number_at, page_number_at, kind_at, level_fits, counted_at, make_at, patch_at, insert_at, remove_at, cut_at, link_at, fields_at, record_at}
 use Rattle.redo_record.specs.Refusal.{BeginsNoRecord}
 use Rattle.redo_record.proofs.Steps.{bind_some, some_is, one_of, AreBytes-rest, AreBytes-front, Takes, Takes-then, Takes-fits}

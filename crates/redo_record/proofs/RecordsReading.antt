@@ -1,22 +1,14 @@
 -- Records one after the other: what is read is spelled so, what is spelled is read, and where the reading stops.
-use Rattle.std.proofs.Common.{◌≡◌, ◌≢◌, ◌≤◌, ◌<◌, ◌+◌, ◌-◌, ◌*◌, ◌^◌, ℕ, zero, suc, Bool, true, false, cond, eqb, leb, List, [], ◌∷◌, ◌++◌, length, take, drop, Option, Some, None, Result, Ok, Err, ◌⊎◌, inl, inr, refl, sym, ap, subst, ◌∙◌, append_assoc, append-nil, arith}
+use Rattle.std.proofs.Common.{◌≡◌, ◌<◌, ◌-◌, ℕ, zero, suc, List, [], ◌∷◌, ◌++◌, length, Option, Some, None, Result, Ok, Err, ◌⊎◌, inl, inr, refl, sym, ap, subst, ◌∙◌, append_assoc, arith}
 use Rattle.std.specs.Prelude.{ok_or}
-use Rattle.std.specs.List.{flat_map, AllByRecursion}
-use Rattle.std.proofs.lemmas.Bool.{eqb-true, and_parts}
-use Rattle.std.proofs.lemmas.Bool.Decides.{nat_tests}
-use Rattle.std.proofs.lemmas.List.{nil_from_length, take_at, drop_at, take-append-drop, length-append, length-take, length-drop, drop-drop}
-use Rattle.std.proofs.lemmas.List.Concat.{flat_map-cons}
-use Rattle.rm_base.specs.Fields.{field, number, AreBytes}
-use Rattle.rm_base.proofs.FieldLaws.{length-field, number-field, number-lt, field-number}
+use Rattle.std.specs.List.{AllByRecursion}
+use Rattle.rm_base.specs.Fields.{AreBytes}
 use Rattle.redo_record.specs.declared.redo.Record.{Record}
-use Rattle.redo_record.specs.declared.redo.Group.{Group}
-use Rattle.redo_record.specs.Spelling.{record_bytes, records_bytes, header_bytes, size_of, group_bytes, IsRecord, IsGroup}
-use Rattle.redo_record.specs.Header.{Header, header_of, body_of, HasHeader}
+use Rattle.redo_record.specs.Spelling.{record_bytes, records_bytes, IsRecord}
 use Rattle.redo_record.specs.Reading.{record_at}
-use Rattle.redo_record.specs.Decoding.{◌>>=◌, has_header, records_at, group_of, group_at}
-use Rattle.redo_record.specs.Refusal.{BeginsNoRecord, BeginsNoGroup, StartsWith, HasBadRecord, HasLeftOver, LacksHeader, IsRefusedAt}
-use Rattle.redo_record.proofs.Steps.{AreBytes-rest, AreBytes-front, Takes, Takes-then, Takes-fits}
-use Rattle.redo_record.proofs.RecordReading.{record_takes, record_again, none_begins, none_read}
+use Rattle.redo_record.specs.Decoding.{◌>>=◌, records_at}
+use Rattle.redo_record.proofs.Steps.{Takes, Takes-then, Takes-fits}
+use Rattle.redo_record.proofs.RecordReading.{record_takes, record_again}
 
 -- ---- steps
 

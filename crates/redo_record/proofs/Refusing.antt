@@ -1,20 +1,18 @@
 -- Where bytes are refused: the reading refuses at just the offset that the grammar says.
-use Rattle.std.proofs.Common.{◌≡◌, ◌≢◌, ◌≤◌, ◌<◌, ◌+◌, ◌-◌, ◌^◌, ℕ, zero, suc, Bool, true, false, cond, eqb, leb, List, [], ◌∷◌, ◌++◌, length, take, drop, Option, Some, None, Result, Ok, Err, ◌⊎◌, inl, inr, refl, sym, ap, subst, ◌∙◌, append_assoc, append-nil, arith}
+use Rattle.std.proofs.Common.{◌≡◌, ◌≢◌, ◌<◌, ◌-◌, ℕ, suc, Bool, true, false, cond, eqb, List, [], ◌∷◌, ◌++◌, length, drop, None, Result, Ok, Err, ◌⊎◌, inl, inr, refl, sym, ap, subst, ◌∙◌, arith}
 use Rattle.std.specs.List.{AllByRecursion}
-use Rattle.std.proofs.lemmas.Bool.{eqb-true}
 use Rattle.std.proofs.lemmas.Bool.Decides.{nat_tests}
-use Rattle.std.proofs.lemmas.List.{nil_from_length, length-append}
+use Rattle.std.proofs.lemmas.List.{length-append}
 use Rattle.rm_base.specs.Fields.{AreBytes}
 use Rattle.redo_record.specs.declared.redo.Record.{Record}
-use Rattle.redo_record.specs.declared.redo.Group.{Group}
-use Rattle.redo_record.specs.Spelling.{records_bytes, group_bytes, IsRecord, IsGroup}
+use Rattle.redo_record.specs.Spelling.{records_bytes, group_bytes, IsRecord}
 use Rattle.redo_record.specs.Header.{Header, header_of, body_of, HasHeader}
 use Rattle.redo_record.specs.Reading.{record_at}
-use Rattle.redo_record.specs.Decoding.{◌>>=◌, has_header, records_at, group_of, group_at}
-use Rattle.redo_record.specs.Refusal.{BeginsNoRecord, BeginsNoGroup, StartsWith, HasBadRecord, HasLeftOver, LacksHeader, IsRefusedAt}
-use Rattle.redo_record.proofs.Steps.{AreBytes-rest, Takes}
+use Rattle.redo_record.specs.Decoding.{has_header, records_at, group_of, group_at}
+use Rattle.redo_record.specs.Refusal.{BeginsNoGroup, StartsWith, HasBadRecord, IsRefusedAt}
+use Rattle.redo_record.proofs.Steps.{AreBytes-rest}
 use Rattle.redo_record.proofs.RecordReading.{none_begins, none_read}
-use Rattle.redo_record.proofs.RecordsReading.{bind_err, TakesRecords, records_take, records_again, records_stop, Stops, records_bad}
+use Rattle.redo_record.proofs.RecordsReading.{bind_err, records_take, records_again, records_stop, Stops, records_bad}
 use Rattle.redo_record.proofs.HeaderReading.{header_is, header_again, AreBytes-drop, AreBytes-take}
 use Rattle.redo_record.proofs.GroupReading.{made_group, length-body_of, group_at_is, group_again}
 

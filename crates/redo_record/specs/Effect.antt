@@ -1,6 +1,6 @@
 -- What records do to a page, and the page that a log leaves.
-use Rattle.std.specs.Prelude.{◌≡◌, ◌≤◌, ◌<◌, ◌+◌, ◌^◌, ℕ, Bool, List, [], ◌∷◌, filter, nat_lt, nat_le, ◌==◌, if◌then◌else◌}
-use Rattle.std.specs.List.{list_any}
+use Rattle.std.specs.Prelude.{◌≡◌, ◌≤◌, ◌<◌, ◌+◌, ℕ, Bool, false, List, [], ◌∷◌, filter, nat_lt, nat_le, ◌==◌, if◌then◌else◌}
+use Rattle.std.specs.List.{list_any, AllByRecursion}
 use Rattle.page_image.specs.Image.{Image, unmade, CanMake, made, CanPatch, patched, CanInsert, inserted, CanRemove, removed, CanCut, cut_from, CanLink, linked}
 use Rattle.redo_record.specs.declared.redo.Record.{Record}
 use Rattle.redo_record.specs.declared.redo.Record.TheVariants.{Make, Patch, InsertSlot, RemoveSlot, Cut, Link}
@@ -84,6 +84,18 @@ last_from before (g ∷ gs) p = last_from (if changes p g then g.lsn else before
 -- the LSN of the last group with a record for page p, or 0
 abbrev pub last : List Group → ℕ → ℕ
 last groups p = last_from 0 groups p
+
+-- each LSN is past n
+abbrev pub ArePast : ℕ → List Group → Type 0
+ArePast n groups = AllByRecursion (λ g. n < g.lsn) groups
+
+-- each LSN is at most n
+abbrev pub AreUpTo : ℕ → List Group → Type 0
+AreUpTo n groups = AllByRecursion (λ g. g.lsn ≤ n) groups
+
+-- no group has a record for page p
+abbrev pub LeaveAlone : ℕ → List Group → Type 0
+LeaveAlone p groups = AllByRecursion (λ g. changes p g ≡ false) groups
 
 -- the LSNs ascend, and all are past n
 abbrev pub Ascends : ℕ → List Group → Type 0

@@ -5,6 +5,7 @@
 mod applying;
 mod decoding;
 mod encoding;
+mod laws;
 mod reader;
 mod record_reader;
 mod redo;
@@ -12,4 +13,5 @@ mod redo;
 pub use applying::{BadApply, apply};
 pub use decoding::{BadRecord, decode};
 pub use encoding::encode;
+pub use laws::{fold_laws, grammar_laws};
 pub use redo::{Group, Groups, Record, Records};

@@ -1,6 +1,6 @@
 use Rattle.std.proofs.lemmas.Result.{err_from_is_err_and}
 use Rattle.redo_record.specs.Decoding.{records_at}
-use Rattle.redo_record.proofs.RecordLoop.{IsReading, goes_on, ends, is_done}
+use Rattle.redo_record.proofs.RecordLoop.{goes_on, ends, is_done}
 use Rattle.redo_record.proofs.decoding.next_records.Goals as goal
 
 pub returns-in_err-record : goal.returns-in_err-record
