@@ -9,7 +9,7 @@ use Rattle.page_image.specs.Image.{kind_number}
 use Rattle.redo_record.specs.declared.redo.Record.{Record}
 use Rattle.redo_record.specs.declared.redo.Record.TheVariants.{Make, Patch, InsertSlot, RemoveSlot, Cut, Link}
 use Rattle.redo_record.specs.declared.redo.Group.{Group}
-use Rattle.redo_record.specs.Spelling.{counted, record_bytes, records_bytes, header_bytes, size_of, group_bytes, IsRecord, IsAdmitted, IsGroup, BeginsWith}
+use Rattle.redo_record.specs.Spelling.{counted, record_bytes, records_bytes, header_bytes, size_of, group_bytes, IsRecord, IsTyped, IsAdmitted, IsEncodable, IsGroup, BeginsWith}
 use Rattle.redo_record.specs.Header.{Header, header_of, body_of, HasHeader}
 use Rattle.redo_record.specs.Decoding.{has_header, records_at, group_of, group_at}
 use Rattle.redo_record.proofs.RecordsReading.{bind_ok, ok_is, records_take, records_again}
@@ -37,13 +37,22 @@ records_bound [] each = omega arith
 records_bound (r ∷ rs) each =
     omega (arith, length-append (record_bytes r) (records_bytes rs), record_bound r each.0, records_bound rs each.1)
 
-admitted : (rs : List Record) → AllByRecursion IsRecord rs → AllByRecursion IsAdmitted rs
-admitted [] each = tt
-admitted (r ∷ rs) each = (each.0.1, admitted rs each.1)
+-- records are of their types and admitted
+pub both_each : (rs : List Record) → AllByRecursion IsTyped rs → AllByRecursion IsAdmitted rs → AllByRecursion IsRecord rs
+both_each [] typed admitted = tt
+both_each (r ∷ rs) typed admitted = ((typed.0, admitted.0), both_each rs typed.1 admitted.1)
+
+admitted_each : (rs : List Record) → AllByRecursion IsRecord rs → AllByRecursion IsAdmitted rs
+admitted_each [] each = tt
+admitted_each (r ∷ rs) each = (each.0.1, admitted_each rs each.1)
+
+typed_each : (rs : List Record) → AllByRecursion IsRecord rs → AllByRecursion IsTyped rs
+typed_each [] each = tt
+typed_each (r ∷ rs) each = (each.0.0, typed_each rs each.1)
 
 -- the length of a group fits its field
-pub size_bound : (g : Group) → IsGroup g → size_of g < 2 ^ 32
-size_bound g h = omega (arith, records_bound g.records (admitted g.records h.each), h.most)
+pub size_bound : (g : Group) → IsEncodable g → size_of g < 2 ^ 32
+size_bound g h = omega (arith, records_bound g.records h.each, h.most)
 
 pub length-group_bytes : (g : Group) → length (group_bytes g) ≡ size_of g
 length-group_bytes g =
@@ -83,11 +92,15 @@ group_was bytes h rs fits each count body =
     record {
       is_group =
           record {
-            first = h.first;
+            encodable =
+                record {
+                  first = h.first;
+                  some = rw count h.some;
+                  most = let few : head.count < 2 ^ 16 = number-lt 2 (drop 12 bytes) (AreBytes-drop 12 bytes fits) in omega (arith, count);
+                  each = admitted_each rs each;
+                };
             bound = number-lt 8 (drop 4 bytes) (AreBytes-drop 4 bytes fits);
-            some = rw count h.some;
-            most = let few : head.count < 2 ^ 16 = number-lt 2 (drop 12 bytes) (AreBytes-drop 12 bytes fits) in omega (arith, count);
-            each = each;
+            typed = typed_each rs each;
           };
       size = sym size ∙ sym (length-group_bytes g);
       parts =
@@ -135,7 +148,7 @@ module _ (g : Group) (rest : List ℕ) (is_group : IsGroup g) where
   spelled_head : header_of spelled ≡ record { size = size_of g; lsn = g.lsn; count = length g.records }
   unfolding spelled
   spelled_head =
-      header_reads (size_of g) g.lsn (length g.records) (records_bytes g.records ++ rest) (size_bound g is_group) is_group.bound (omega (arith, is_group.most))
+      header_reads (size_of g) g.lsn (length g.records) (records_bytes g.records ++ rest) (size_bound g is_group.encodable) is_group.bound (omega (arith, is_group.encodable.most))
 
   spelled_body : body_of spelled ≡ records_bytes g.records
   unfolding spelled
@@ -156,8 +169,8 @@ module _ (g : Group) (rest : List ℕ) (is_group : IsGroup g) where
         whole = omega (arith, len);
         long = omega (arith, size);
         there = omega (arith, size, len);
-        first = omega (arith, lsn, is_group.first);
-        some = omega (arith, count, is_group.some);
+        first = omega (arith, lsn, is_group.encodable.first);
+        some = omega (arith, count, is_group.encodable.some);
       }
 
   pub group_again : group_at (group_bytes g ++ rest) ≡ Ok (g, length (group_bytes g))
@@ -165,5 +178,5 @@ module _ (g : Group) (rest : List ℕ) (is_group : IsGroup g) where
   group_again =
       ap group_at (append_assoc (header_bytes (size_of g) g.lsn (length g.records)) (records_bytes g.records) rest)
       ∙ group_at_is spelled (record { size = size_of g; lsn = g.lsn; count = length g.records }) (records_bytes g.records) spelled_has spelled_head spelled_body
-      ∙ group_of_again (record { size = size_of g; lsn = g.lsn; count = length g.records }) g.records is_group.each refl
+      ∙ group_of_again (record { size = size_of g; lsn = g.lsn; count = length g.records }) g.records (both_each g.records is_group.typed is_group.encodable.each) refl
       ∙ ap (λ (n : ℕ). Ok (g, n)) (sym (length-group_bytes g))

@@ -68,20 +68,18 @@ IsTyped (Link page next) = page ≤ 32767
 abbrev pub IsRecord : Record → Type 0
 IsRecord r = IsTyped r × IsAdmitted r
 
--- what is read as a group
-pub record IsGroup (g : Group) : Type 0 where
-  pub first : 1 ≤ g.lsn
-  pub bound : g.lsn < 2 ^ 64
-  pub some : 1 ≤ length g.records
-  pub most : length g.records ≤ 65535
-  pub each : AllByRecursion IsRecord g.records
-
--- what decoding asks of a group of the program
+-- what decoding asks of a group, beside that its fields are of their types
 pub record IsEncodable (g : Group) : Type 0 where
   pub first : 1 ≤ g.lsn
   pub some : 1 ≤ length g.records
   pub most : length g.records ≤ 65535
   pub each : AllByRecursion IsAdmitted g.records
+
+-- what is read as a group
+pub record IsGroup (g : Group) : Type 0 where
+  pub encodable : IsEncodable g
+  pub bound : g.lsn < 2 ^ 64
+  pub typed : AllByRecursion IsTyped g.records
 
 -- what is read as a log
 abbrev pub IsLog : List Group → Type 0

@@ -1,7 +1,7 @@
 ghost use Rattle.std.specs.Prelude.{◌≡◌, ◌≤◌, ◌<◌, ◌+◌, ◌++◌, ◌^◌, length, OnOk, OnErr, IfOk};
 ghost use Rattle.std.specs.List.{AllByRecursion};
 ghost use Rattle.rm_base.specs.Fields.{field, AreBytes};
-ghost use Rattle.redo_record.specs.Spelling.{counted, record_bytes, records_bytes, group_bytes, FitsPage, IsAdmitted, IsRecord, IsGroup, IsEncodable};
+ghost use Rattle.redo_record.specs.Spelling.{counted, record_bytes, records_bytes, group_bytes, FitsPage, IsAdmitted, IsTyped, IsGroup, IsEncodable};
 
 use crate::redo::{
     CUT, GROUP_HEADER_BYTES, Group, INSERT_SLOT, LINK, MAKE, PATCH, REMOVE_SLOT, Record,
@@ -47,7 +47,7 @@ fn push_counted(out: &mut Bytes, bytes: &[u8]) -> Result<(), WantOfMemory>
 fn push_record(out: &mut Bytes, r: &Record) -> Result<(), WantOfMemory>
     requires { IsAdmitted r.now }
     ensures spelled { OnOk result (out.new ≡ out.old ++ record_bytes r.now) }
-    ensures is_record { OnOk result (IsRecord r.now) }
+    ensures typed { OnOk result (IsTyped r.now) }
 {
     match r {
         Record::Make { page, kind, level } => {
@@ -96,7 +96,7 @@ fn push_record(out: &mut Bytes, r: &Record) -> Result<(), WantOfMemory>
 fn records_aside(alloc: Global, records: &[Record]) -> Result<Bytes, WantOfMemory>
     requires { AllByRecursion IsAdmitted records.now }
     ensures spelled { IfOk result (λ out. out ≡ records_bytes records.now) }
-    ensures are_records { OnOk result (AllByRecursion IsRecord records.now) }
+    ensures typed { OnOk result (AllByRecursion IsTyped records.now) }
 {
     let mut out = Items::new(alloc);
     for r in records {
