@@ -1,0 +1,5 @@
+pub mod Inner
+pub mod Keys
+pub mod Leaf
+pub mod Undo
+pub mod Views
