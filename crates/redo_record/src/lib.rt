@@ -15,3 +15,6 @@ pub use decoding::{BadRecord, decode};
 pub use encoding::encode;
 pub use laws::{fold_laws, grammar_laws};
 pub use redo::{Group, Groups, Record, Records};
+
+#[cfg(test)]
+mod tests;
