@@ -15,15 +15,6 @@ page_of (RemoveSlot page index) = page
 page_of (Cut page from) = page
 page_of (Link page next) = page
 
--- the record makes a page or puts an item into one
-abbrev pub MakesOrInserts : Record → Type 0
-MakesOrInserts (Make page kind level) = Unit {0}
-MakesOrInserts (Patch page at bytes) = ⊥
-MakesOrInserts (InsertSlot page index bytes) = Unit {0}
-MakesOrInserts (RemoveSlot page index) = ⊥
-MakesOrInserts (Cut page from) = ⊥
-MakesOrInserts (Link page next) = ⊥
-
 -- the record can change a page that is so
 abbrev pub Applies : Record → Image → Type 0
 Applies (Make page kind level) im = CanMake im kind level

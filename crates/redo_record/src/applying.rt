@@ -1,6 +1,6 @@
 ghost use Rattle.std.specs.Prelude.{◌≡◌, ◌↔◌, IsOk, OnOk, OnErr};
 ghost use Rattle.page_image.specs.Image.{Follows};
-ghost use Rattle.redo_record.specs.Effect.{page_of, Applies, MakesOrInserts, effect};
+ghost use Rattle.redo_record.specs.Effect.{page_of, Applies, effect};
 
 use crate::redo::Record;
 use page_image::Page;
@@ -15,7 +15,6 @@ pub struct BadApply;
 /// Does a record of a group with this LSN to its page. Refused where the record cannot change the page,
 /// which then stays as it was.
 pub fn apply(page: &mut Page, r: &Record, lsn: Lsn) -> Result<(), BadApply>
-    requires first { MakesOrInserts r.now }
     requires mine { page_of r.now ≡ page.old.page }
     requires follows { Follows page.old lsn }
     ensures applies { IsOk result ↔ Applies r.now page.old }
@@ -45,9 +44,33 @@ pub fn apply(page: &mut Page, r: &Record, lsn: Lsn) -> Result<(), BadApply>
             page.insert_item(*index, bytes.as_slice(), lsn);
             Ok(())
         }
-        Record::Patch { .. } => Err(BadApply),
-        Record::RemoveSlot { .. } => Err(BadApply),
-        Record::Cut { .. } => Err(BadApply),
-        Record::Link { .. } => Err(BadApply),
+        Record::Patch { page: _, at, bytes } => {
+            if !page.can_patch(*at, bytes.as_slice()) {
+                return Err(BadApply);
+            }
+            page.patch(*at, bytes.as_slice(), lsn);
+            Ok(())
+        }
+        Record::RemoveSlot { page: _, index } => {
+            if !page.can_remove(*index) {
+                return Err(BadApply);
+            }
+            page.remove_item(*index, lsn);
+            Ok(())
+        }
+        Record::Cut { page: _, from } => {
+            if !page.can_cut(*from) {
+                return Err(BadApply);
+            }
+            page.cut(*from, lsn);
+            Ok(())
+        }
+        Record::Link { page: _, next } => {
+            if !page.can_link(*next) {
+                return Err(BadApply);
+            }
+            page.link(*next, lsn);
+            Ok(())
+        }
     }
 }
