@@ -7,3 +7,4 @@ pub mod InsertLaws
 pub mod LessLaws
 pub mod RemoveLaws
 pub mod LendLaws
+pub mod FaultLaws

@@ -3,3 +3,4 @@ pub mod Layout
 pub mod Rules
 pub mod Moves
 pub mod Lending
+pub mod Faults

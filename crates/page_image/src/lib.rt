@@ -2,6 +2,7 @@
 #![tactic(auto)]
 
 mod changes;
+mod faults;
 mod header;
 mod kind;
 mod layout;
