@@ -8,3 +8,5 @@ pub mod LessLaws
 pub mod RemoveLaws
 pub mod LendLaws
 pub mod FaultLaws
+pub mod ReadLaws
+pub mod RuleLaws
