@@ -146,3 +146,35 @@ pub length-header_bytes : (h : Header) → length (header_bytes h) ≡ 32
 unfolding header_bytes
 length-header_bytes h =
     simp length-append (simp length-field refl)
+
+-- the last two bytes of a header
+pub drop-header_bytes : (h : Header) (rest : List ℕ) → drop 30 (header_bytes h ++ rest) ≡ h.level ∷ 0 ∷ rest
+unfolding header_bytes
+drop-header_bytes h rest =
+    let bytes : List ℕ = header_bytes h ++ rest in
+    let t30 : List ℕ = h.level ∷ 0 ∷ rest in
+    let t28 : List ℕ = field 2 h.low ++ t30 in
+    let t24 : List ℕ = field 4 h.next ++ t28 in
+    let t16 : List ℕ = field 8 h.structure ++ t24 in
+    let t8 : List ℕ = field 8 h.lsn ++ t16 in
+    let t4 : List ℕ = field 4 h.page ++ t8 in
+    let d2 : drop 2 bytes ≡ field 2 h.slots ++ t4 =
+    open_up (field 2 h.slots) (field 4 h.page) (field 8 h.lsn) (field 8 h.structure) (field 4 h.next) (field 2 h.low) (h.level ∷ 0 ∷ []) rest in
+    let d4 : drop 4 bytes ≡ t4 = past_field 2 2 h.slots bytes t4 d2 in
+    let d8 : drop 8 bytes ≡ t8 = past_field 4 4 h.page bytes t8 d4 in
+    let d16 : drop 16 bytes ≡ t16 = past_field 8 8 h.lsn bytes t16 d8 in
+    let d24 : drop 24 bytes ≡ t24 = past_field 8 16 h.structure bytes t24 d16 in
+    let d28 : drop 28 bytes ≡ t28 = past_field 4 24 h.next bytes t28 d24 in
+    past_field 2 28 h.low bytes t30 d28
+
+-- the bytes of a header that are no numbers
+pub header-first : (h : Header) (rest : List ℕ) → slice_index (header_bytes h ++ rest) 0 ≡ kind_number h.kind
+unfolding header_bytes
+header-first h rest = refl
+
+pub header-second : (h : Header) (rest : List ℕ) → slice_index (header_bytes h ++ rest) 1 ≡ 0
+unfolding header_bytes
+header-second h rest = refl
+
+pub header-last : (h : Header) (rest : List ℕ) → slice_index (header_bytes h ++ rest) 31 ≡ 0
+header-last h rest = sym (get_or-drop 30 (header_bytes h ++ rest) 1 0) ∙ ap (λ (q : List ℕ). slice_index q 1) (drop-header_bytes h rest)

@@ -10,3 +10,4 @@ pub mod LendLaws
 pub mod FaultLaws
 pub mod ReadLaws
 pub mod RuleLaws
+pub mod KeepLaws

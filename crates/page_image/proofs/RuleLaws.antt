@@ -25,17 +25,17 @@ rule_holds true at rest e = (refl, e)
 rule_holds false at rest e = absurd cc
 
 -- what the rules of the header say
-record HeaderHolds (bytes : List ℕ) : Type 0 where
-  kind : slice_index bytes 0 ≤ 6
-  first : slice_index bytes 1 ≡ 0
-  slots : slots_hold (header_at bytes) ≡ true
-  page : (header_at bytes).page ≤ 32767
-  lsn : lsn_holds (header_at bytes) ≡ true
-  structure : (header_at bytes).structure ≤ (header_at bytes).lsn
-  next : next_holds (header_at bytes) ≡ true
-  low : low_holds bytes (header_at bytes) ≡ true
-  level : level_holds (header_at bytes) ≡ true
-  last : slice_index bytes 31 ≡ 0
+pub record HeaderHolds (bytes : List ℕ) : Type 0 where
+  pub kind : slice_index bytes 0 ≤ 6
+  pub first : slice_index bytes 1 ≡ 0
+  pub slots : slots_hold (header_at bytes) ≡ true
+  pub page : (header_at bytes).page ≤ 32767
+  pub lsn : lsn_holds (header_at bytes) ≡ true
+  pub structure : (header_at bytes).structure ≤ (header_at bytes).lsn
+  pub next : next_holds (header_at bytes) ≡ true
+  pub low : low_holds bytes (header_at bytes) ≡ true
+  pub level : level_holds (header_at bytes) ≡ true
+  pub last : slice_index bytes 31 ≡ 0
 
 header_says : (bytes : List ℕ) → first_broken (header_rules bytes) ≡ None → HeaderHolds bytes
 header_says bytes none =
@@ -88,7 +88,7 @@ level_says Leaf level e = eqb-true level 0 e
 level_says Inner level e = let parts = and_parts (nat_le 1 level) (nat_le level 8) e in (leb-true 1 level (parts.0), leb-true level 8 (parts.1))
 level_says Undo level e = eqb-true level 0 e
 
-level_said : (k : Kind) (level : ℕ) → LevelFits k level → cond (is_inner k) (nat_le 1 level && nat_le level 8) (level == 0) ≡ true
+pub level_said : (k : Kind) (level : ℕ) → LevelFits k level → cond (is_inner k) (nat_le 1 level && nat_le level 8) (level == 0) ≡ true
 level_said Unmade level fits = eq-eqb level 0 fits
 level_said Meta level fits = eq-eqb level 0 fits
 level_said Slots level fits = eq-eqb level 0 fits
@@ -109,7 +109,7 @@ lsn_says Undo lsn e = ((λ none. absurd (omega (arith, ltb-true 0 lsn e))), (λ 
 some_lsn : (lsn : ℕ) → (lsn ≡ 0 → ⊥) → nat_lt 0 lsn ≡ true
 some_lsn lsn some = lt-ltb 0 lsn (omega arith)
 
-lsn_said : (k : Kind) (lsn : ℕ) → (lsn ≡ 0) ↔ (k ≡ Unmade) → cond (is_slotted k || has_body k) (nat_lt 0 lsn) (lsn == 0) ≡ true
+pub lsn_said : (k : Kind) (lsn : ℕ) → (lsn ≡ 0) ↔ (k ≡ Unmade) → cond (is_slotted k || has_body k) (nat_lt 0 lsn) (lsn == 0) ≡ true
 lsn_said Unmade lsn iff = eq-eqb lsn 0 (iff.1 refl)
 lsn_said Meta lsn iff = some_lsn lsn (λ none. let e : Meta ≡ Unmade = iff.0 none in absurd cc)
 lsn_said Slots lsn iff = some_lsn lsn (λ none. let e : Slots ≡ Unmade = iff.0 none in absurd cc)
