@@ -110,18 +110,6 @@ impl<'a> Reader<'a> {
         }
     }
 
-    /// The number of a page, or 0 for none.
-    #[tactic(auto, unfolding(crate::specs::Reading::page_number_at))]
-    pub fn next(&mut self) -> Result<u32, Unread>
-        ensures { Reads result self.new (page_number_at self.old) }
-    {
-        let number = self.u32()?;
-        if number > 32767 {
-            return Err(Unread::Malformed);
-        }
-        Ok(number)
-    }
-
     /// The kind that a page is made of.
     #[tactic(auto, unfolding(crate::specs::Reading::kind_at))]
     pub fn kind(&mut self) -> Result<Kind, Unread>

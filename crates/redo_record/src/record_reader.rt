@@ -62,8 +62,11 @@ impl<'a> Reader<'a> {
         ensures { Reads result self.new (link_at self.old) }
     {
         let page = self.page()?;
-        let next = self.next()?;
-        Ok(Record::Link { page, next })
+        let next = self.page()?;
+        Ok(Record::Link {
+            page,
+            next: next.number(),
+        })
     }
 
     #[tactic(auto, unfolding(crate::specs::Reading::record_at))]

@@ -1,3 +1,6 @@
+ghost use Rattle.std.specs.Prelude.{◌≡◌};
+ghost use Rattle.redo_record.specs.Effect.{page_of};
+
 use page_image::Kind;
 use rm_base::{Bytes, Duplicate, Items, Lsn, PageId, WantOfMemory};
 use std::alloc::Global;
@@ -55,6 +58,22 @@ pub(crate) const LINK: u8 = 6;
 
 /// How many bytes a group has before its records.
 pub(crate) const GROUP_HEADER_BYTES: usize = 14;
+
+impl Record {
+    /// The page that the record changes.
+    pub fn page(&self) -> PageId
+        ensures { result ≡ page_of self.now }
+    {
+        match self {
+            Record::Make { page, .. } => *page,
+            Record::Patch { page, .. } => *page,
+            Record::InsertSlot { page, .. } => *page,
+            Record::RemoveSlot { page, .. } => *page,
+            Record::Cut { page, .. } => *page,
+            Record::Link { page, .. } => *page,
+        }
+    }
+}
 
 /// Changes in their order.
 pub type Records = Items<Record>;
