@@ -25,8 +25,8 @@ pub all_pass : (test : ℕ → Bool) (from n : ℕ) → first_failing test from 
 all_pass test from zero none k low high = absurd (omega arith)
 all_pass test from (suc n) none k low high =
     ⊎_elim (λ passes.
-      let rest : first_failing test (suc from) n ≡ None = ap (λ (b : Bool). cond b (first_failing test (suc from) n) (Some from)) (sym passes) ∙ none in
-      ⊎_elim (λ here. ap test here ∙ passes) (λ past. all_pass test (suc from) n rest k (past_le past) (omega arith)) (cases_eq k from))
+    let rest : first_failing test (suc from) n ≡ None = ap (λ (b : Bool). cond b (first_failing test (suc from) n) (Some from)) (sym passes) ∙ none in
+    ⊎_elim (λ here. ap test here ∙ passes) (λ past. all_pass test (suc from) n rest k (past_le past) (omega arith)) (cases_eq k from))
     (λ fails. let clash : Some from ≡ None = ap (λ (b : Bool). cond b (first_failing test (suc from) n) (Some from)) (sym fails) ∙ none in absurd cc)
     (cases_Bool (test from))
   where

@@ -64,19 +64,19 @@ header_holds bytes page =
       kind = omega (arith, kind_small im.kind);
       first = ap (λ (q : List ℕ). slice_index q 1) page.spelled ∙ second_of im;
       slots = both_hold (is_slotted h.kind) (nat_le h.slots 1354) (h.slots == 0)
-        (λ slotted. le-leb h.slots 1354 page.slots_bound)
-        (λ plain. eq-eqb h.slots 0 (count ∙ ap (λ (q : List (List ℕ)). length q) (good.no_items plain)));
+          (λ slotted. le-leb h.slots 1354 page.slots_bound)
+          (λ plain. eq-eqb h.slots 0 (count ∙ ap (λ (q : List (List ℕ)). length q) (good.no_items plain)));
       page = good.page_bound;
       lsn = lsn_said h.kind h.lsn good.unmade_only;
       structure = good.structure_bound;
       next = both_hold (is_slotted h.kind) (nat_le h.next 32767) (h.next == 0)
-        (λ slotted. le-leb h.next 32767 good.next_bound)
-        (λ plain. eq-eqb h.next 0 (good.next_of_items plain));
+          (λ slotted. le-leb h.next 32767 good.next_bound)
+          (λ plain. eq-eqb h.next 0 (good.next_of_items plain));
       low = both_hold (is_slotted h.kind) (h.low == end_of bytes h.slots) (h.low == 0)
-        (λ slotted. eq-eqb h.low (end_of bytes h.slots)
+          (λ slotted. eq-eqb h.low (end_of bytes h.slots)
           (low ∙ ap (λ (b : Bool). cond b (4096 - length (packed im.items)) 0) slotted
           ∙ sym (lowest im bytes page.spelled slotted) ∙ ap (end_of bytes) (sym count)))
-        (λ plain. eq-eqb h.low 0 (low ∙ ap (λ (b : Bool). cond b (4096 - length (packed im.items)) 0) plain));
+          (λ plain. eq-eqb h.low 0 (low ∙ ap (λ (b : Bool). cond b (4096 - length (packed im.items)) 0) plain));
       level = level_said h.kind h.level good.level_fits;
       last = ap (λ (q : List ℕ). slice_index q 31) page.spelled ∙ last_of im;
     }
@@ -156,16 +156,16 @@ bytes_kept bytes page k low high =
     let count : h.slots ≡ length im.items = page.count in
     let lowest_is : h.low ≡ cond (is_slotted h.kind) (4096 - length (packed im.items)) 0 = ap (λ (q : Header). q.low) page.header_is in
     eq-eqb (slice_index bytes k) 0 (
-      ⊎_elim (λ slotted.
-        let end : zero_end h ≡ 4096 - length (packed im.items) =
-        ap (λ (b : Bool). cond b h.low (cond (has_body h.kind) 32 4096)) slotted ∙ lowest_is ∙ ap (λ (b : Bool). cond b (4096 - length (packed im.items)) 0) slotted in
-        gap_clear im bytes k page.good page.spelled slotted (omega arith) (omega arith))
-      (λ plain. ⊎_elim (λ body.
-          let end : zero_end h ≡ 32 = ap (λ (b : Bool). cond b h.low (cond (has_body h.kind) 32 4096)) plain ∙ ap (λ (b : Bool). cond b 32 4096) body in
-          absurd (omega arith))
-        (λ none. unmade_clear im bytes k page.spelled plain none (omega arith))
-        (cases_Bool (has_body h.kind)))
-      (cases_Bool (is_slotted h.kind)))
+    ⊎_elim (λ slotted.
+    let end : zero_end h ≡ 4096 - length (packed im.items) =
+    ap (λ (b : Bool). cond b h.low (cond (has_body h.kind) 32 4096)) slotted ∙ lowest_is ∙ ap (λ (b : Bool). cond b (4096 - length (packed im.items)) 0) slotted in
+    gap_clear im bytes k page.good page.spelled slotted (omega arith) (omega arith))
+    (λ plain. ⊎_elim (λ body.
+    let end : zero_end h ≡ 32 = ap (λ (b : Bool). cond b h.low (cond (has_body h.kind) 32 4096)) plain ∙ ap (λ (b : Bool). cond b 32 4096) body in
+    absurd (omega arith))
+    (λ none. unmade_clear im bytes k page.spelled plain none (omega arith))
+    (cases_Bool (has_body h.kind)))
+    (cases_Bool (is_slotted h.kind)))
 
 -- a page has no fault
 pub rules_from_page : (bytes : List ℕ) → IsPage bytes → fault bytes ≡ None
@@ -176,7 +176,7 @@ rules_from_page bytes page =
     let front : first_broken (header_rules bytes) ≡ None = header_kept bytes (header_holds bytes page) in
     let slots : slot_fault bytes h.slots ≡ None =
     ap (option_map (λ (i : ℕ). 32 + 2 * i)) (pass_all (slot_holds bytes h.slots) 0 h.slots (λ k low high.
-      ap (λ (q : ℕ). slot_holds bytes q k) count ∙ slot_kept im bytes k page.good page.spelled (omega arith))) in
+    ap (λ (q : ℕ). slot_holds bytes q k) count ∙ slot_kept im bytes k page.good page.spelled (omega arith))) in
     let clear : byte_fault bytes (32 + 2 * h.slots) (zero_end h) ≡ None =
     pass_all (λ (k : ℕ). slice_index bytes k == 0) (32 + 2 * h.slots) (zero_end h - (32 + 2 * h.slots)) (bytes_kept bytes page) in
     rule_kept (length bytes == 4096) 4096 _ (eq-eqb (length bytes) 4096 page.length_is)

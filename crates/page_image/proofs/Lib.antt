@@ -11,3 +11,4 @@ pub mod FaultLaws
 pub mod ReadLaws
 pub mod RuleLaws
 pub mod KeepLaws
+pub mod TheLaws

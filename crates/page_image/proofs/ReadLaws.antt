@@ -51,18 +51,18 @@ header_bytes-header_at bytes are long kind first last =
     sym (take-add 2 30 bytes
     ∙ ap (λ (q : List ℕ). q ++ take 30 (drop 2 bytes)) front
     ∙ ap (λ (q : List ℕ). (kind_number h.kind ∷ 0 ∷ []) ++ q)
-      (split_field 2 2 bytes 28 are (omega arith)
-      ∙ ap (λ (q : List ℕ). field 2 h.slots ++ q)
-        (split_field 4 4 bytes 24 are (omega arith)
-        ∙ ap (λ (q : List ℕ). field 4 h.page ++ q)
-          (split_field 8 8 bytes 16 are (omega arith)
-          ∙ ap (λ (q : List ℕ). field 8 h.lsn ++ q)
-            (split_field 8 16 bytes 8 are (omega arith)
-            ∙ ap (λ (q : List ℕ). field 8 h.structure ++ q)
-              (split_field 4 24 bytes 4 are (omega arith)
-              ∙ ap (λ (q : List ℕ). field 4 h.next ++ q)
-                (split_field 2 28 bytes 2 are (omega arith)
-                ∙ ap (λ (q : List ℕ). field 2 h.low ++ q) behind)))))))
+    (split_field 2 2 bytes 28 are (omega arith)
+    ∙ ap (λ (q : List ℕ). field 2 h.slots ++ q)
+    (split_field 4 4 bytes 24 are (omega arith)
+    ∙ ap (λ (q : List ℕ). field 4 h.page ++ q)
+    (split_field 8 8 bytes 16 are (omega arith)
+    ∙ ap (λ (q : List ℕ). field 8 h.lsn ++ q)
+    (split_field 8 16 bytes 8 are (omega arith)
+    ∙ ap (λ (q : List ℕ). field 8 h.structure ++ q)
+    (split_field 4 24 bytes 4 are (omega arith)
+    ∙ ap (λ (q : List ℕ). field 4 h.next ++ q)
+    (split_field 2 28 bytes 2 are (omega arith)
+    ∙ ap (λ (q : List ℕ). field 2 h.low ++ q) behind)))))))
 
 -- n slots of which each stands below the one before it
 abbrev pub Descends : ℕ → ℕ → List ℕ → Type 0

@@ -139,12 +139,11 @@ descends bytes count (suc n) i each =
     let later : drop 2 (drop (32 + 2 * i) bytes) ≡ drop (32 + 2 * (i + 1)) bytes = drop-drop 2 (32 + 2 * i) bytes ∙ ap (λ (q : ℕ). drop q bytes) at in
     let rest = descends bytes count n (i + 1) (λ k low high. each k (omega arith) (omega arith)) in
     let first : number 2 (drop (32 + 2 * i) bytes) < end_of bytes i = omega (arith, (slot_says bytes count i (each i (omega arith) (omega arith))).0) in
-    let same : i + 1 + n ≡ i + suc n = omega arith in
-    (
+    let same : i + 1 + n ≡ i + suc n = omega arith in (
       (first, subst (λ (q : List ℕ). Descends n (number 2 (drop (32 + 2 * i) bytes)) q) (sym later) (subst (λ (q : ℕ). Descends n q (drop (32 + 2 * (i + 1)) bytes)) place (rest.0))),
       ap (λ (q : List ℕ). last_place n (number 2 (drop (32 + 2 * i) bytes)) q) later
-      ∙ ap (λ (q : ℕ). last_place n q (drop (32 + 2 * (i + 1)) bytes)) (sym place)
-      ∙ rest.1 ∙ ap (end_of bytes) same,
+          ∙ ap (λ (q : ℕ). last_place n q (drop (32 + 2 * (i + 1)) bytes)) (sym place)
+          ∙ rest.1 ∙ ap (end_of bytes) same,
     )
 
 none_or : (a b : Option ℕ) → option_or a b ≡ None → (a ≡ None) × (b ≡ None)
@@ -182,8 +181,8 @@ zero_part : (bytes : List ℕ) (from to : ℕ) → from ≤ to → to ≤ length
 zero_part bytes from to low high each =
     let size : length (slice_range bytes from to) ≡ to - from = length-range bytes from to low high in
     zeros_from (slice_range bytes from to) (λ k within.
-      let inside : k < to - from = omega arith in
-      get_or-take (to - from) (drop from bytes) k 0 inside ∙ get_or-drop from bytes k 0 ∙ eqb-true (slice_index bytes (from + k)) 0 (each (from + k) (omega arith) (omega arith)))
+    let inside : k < to - from = omega arith in
+    get_or-take (to - from) (drop from bytes) k 0 inside ∙ get_or-drop from bytes k 0 ∙ eqb-true (slice_index bytes (from + k)) 0 (each (from + k) (omega arith) (omega arith)))
     ∙ ap zeros size
 
 -- bytes behind their header
@@ -287,9 +286,9 @@ three_parts bytes n low size room high =
     let whole : take (4096 - low) (drop low bytes) ≡ drop low bytes = take_all (4096 - low) (drop low bytes) (omega (arith, length-drop low bytes)) in
     sym (take-append-drop (2 * n) (drop 32 bytes))
     ∙ ap (λ (q : List ℕ). take (2 * n) (drop 32 bytes) ++ q)
-      (drop-drop (2 * n) 32 bytes
-      ∙ sym (take-append-drop (low - from) (drop from bytes))
-      ∙ ap (λ (q : List ℕ). slice_range bytes from low ++ q) (drop-drop (low - from) from bytes ∙ ap (λ (q : ℕ). drop q bytes) there ∙ sym whole))
+    (drop-drop (2 * n) 32 bytes
+    ∙ sym (take-append-drop (low - from) (drop from bytes))
+    ∙ ap (λ (q : List ℕ). slice_range bytes from low ++ q) (drop-drop (low - from) from bytes ∙ ap (λ (q : ℕ). drop q bytes) there ∙ sym whole))
 
 -- bytes with items
 items_page : (bytes : List ℕ) → AreBytes bytes → Kept bytes → is_slotted (header_at bytes).kind ≡ true → IsPage bytes

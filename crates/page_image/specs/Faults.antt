@@ -73,6 +73,6 @@ abbrev pub fault : List ℕ → Option ℕ
 fault bytes =
     let h = header_at bytes in
     if length bytes == PAGE_BYTES then
-      option_or (first_broken (header_rules bytes))
-        (option_or (slot_fault bytes h.slots) (byte_fault bytes (HEADER_BYTES + 2 * h.slots) (zero_end h)))
+    option_or (first_broken (header_rules bytes))
+    (option_or (slot_fault bytes h.slots) (byte_fault bytes (HEADER_BYTES + 2 * h.slots) (zero_end h)))
     else Some PAGE_BYTES

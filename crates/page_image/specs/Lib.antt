@@ -4,3 +4,4 @@ pub mod Rules
 pub mod Moves
 pub mod Lending
 pub mod Faults
+pub mod Laws

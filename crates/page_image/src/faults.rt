@@ -1,5 +1,5 @@
 //! Where bytes break the rules of a page.
-ghost use Rattle.std.specs.Prelude.{◌≡◌, ◌≤◌, ◌<◌, length, IfNone};
+ghost use Rattle.std.specs.Prelude.{◌≡◌, ◌≤◌, ◌<◌, length, IfNone, IfSome};
 ghost use Rattle.page_image.specs.Layout.{end_of, header_at};
 ghost use Rattle.page_image.specs.Faults.{slots_hold, lsn_holds, next_holds, low_holds, level_holds, zero_end};
 ghost use Rattle.page_image.specs.Faults.{first_broken, header_rules, slot_holds, slot_fault, byte_fault, fault};
@@ -85,7 +85,8 @@ impl Header {
 fn header_fault(bytes: &[u8], header: &Header) -> Option<usize>
     requires all { length bytes.now ≡ PAGE_BYTES }
     requires header { header.now ≡ header_at bytes.now }
-    ensures { result ≡ first_broken (header_rules bytes.now) }
+    ensures fault { result ≡ first_broken (header_rules bytes.now) }
+    ensures bound { IfSome result (λ at. at ≤ PAGE_BYTES) }
 {
     if bytes[0] > 6 {
         return Some(0);
@@ -136,6 +137,7 @@ fn slots_fault(bytes: &[u8], count: usize) -> Option<usize>
     requires all { length bytes.now ≡ PAGE_BYTES }
     requires count { count ≤ 1354 }
     ensures fault { result ≡ slot_fault bytes.now count }
+    ensures within { IfSome result (λ at. at ≤ PAGE_BYTES) }
     ensures bound { IfNone result (end_of bytes.now count ≤ PAGE_BYTES) }
 {
     for i in 0..count {
@@ -148,8 +150,10 @@ fn slots_fault(bytes: &[u8], count: usize) -> Option<usize>
 
 /// The offset of the first byte from `from` up to `to` that is not zero.
 fn bytes_fault(bytes: &[u8], from: usize, to: usize) -> Option<usize>
-    requires { to ≤ length bytes.now }
-    ensures { result ≡ byte_fault bytes.now from to }
+    requires within { to ≤ length bytes.now }
+    requires all { length bytes.now ≡ PAGE_BYTES }
+    ensures fault { result ≡ byte_fault bytes.now from to }
+    ensures bound { IfSome result (λ at. at ≤ PAGE_BYTES) }
 {
     for k in from..to {
         if bytes[k] != 0 {
@@ -161,7 +165,8 @@ fn bytes_fault(bytes: &[u8], from: usize, to: usize) -> Option<usize>
 
 /// The offset at which the bytes are no page, as 4,096 for bytes of another length.
 pub(crate) fn first_fault(bytes: &[u8]) -> Option<usize>
-    ensures { result ≡ fault bytes.now }
+    ensures fault { result ≡ fault bytes.now }
+    ensures bound { IfSome result (λ at. at ≤ PAGE_BYTES) }
 {
     if bytes.len() != PAGE_BYTES {
         return Some(PAGE_BYTES);

@@ -2,13 +2,17 @@
 #![tactic(auto)]
 
 mod changes;
+mod errors;
 mod faults;
 mod header;
 mod kind;
+mod laws;
 mod layout;
 mod page;
 
+pub use errors::BadPage;
 pub use kind::Kind;
+pub use laws::page_laws;
 pub use page::Page;
 
 /// The bytes of a page.

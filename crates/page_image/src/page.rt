@@ -1,11 +1,14 @@
 //! A page as a value.
-ghost use Rattle.std.specs.Prelude.{◌≡◌, ◌≤◌, ◌+◌, ◌↔◌, slice_range, length, IfOk, IsTrue, slice_get};
+ghost use Rattle.std.specs.Prelude.{◌≡◌, ◌≤◌, ◌+◌, ◌↔◌, slice_range, length, IfOk, IfErr, IsOk, IsTrue, slice_get};
 ghost use Rattle.std.specs.Option.{option_copied};
 ghost use Rattle.page_image.specs.Image.{unmade, free_of, made, patched, inserted, removed, cut_from, linked};
 ghost use Rattle.page_image.specs.Image.{CanMake, CanPatch, CanInsert, CanRemove, CanCut, CanLink, Follows};
 ghost use Rattle.page_image.specs.Layout.{page_bytes};
-ghost use Rattle.page_image.specs.Rules.{IsImage};
+ghost use Rattle.page_image.specs.Rules.{IsImage, IsPage};
+ghost use Rattle.page_image.specs.Faults.{fault};
 
+use crate::errors::BadPage;
+use crate::faults::first_fault;
 use crate::header::Header;
 use crate::kind::Kind;
 use crate::layout::item_end;
@@ -43,6 +46,21 @@ impl Page {
         let mut bytes = vec![in alloc; 0u8; PAGE_BYTES]?;
         changes::write_blank(bytes.as_mut_slice(), page);
         Ok(Page { bytes })
+    }
+
+    /// The page that the bytes are. BadPage exactly where they are no page.
+    pub fn check(alloc: Global, bytes: &[u8]) -> Result<Result<Page, BadPage>, WantOfMemory>
+        ensures accepts { IfOk result (λ judged. IsOk judged ↔ IsPage bytes.now) }
+        ensures same { IfOk result (λ judged. IfOk judged (λ page. page_bytes page ≡ bytes.now)) }
+        ensures bad { IfOk result (λ judged. IfErr judged (λ bad. fault bytes.now ≡ Some bad.at)) }
+    {
+        match first_fault(bytes) {
+            Some(at) => Ok(Err(BadPage { at: at as u16 })),
+            None => {
+                let bytes = Vec::from_slice(alloc, bytes)?;
+                Ok(Ok(Page { bytes }))
+            }
+        }
     }
 
     /// Makes this page the same as the other one.
