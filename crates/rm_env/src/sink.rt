@@ -14,6 +14,17 @@ pub enum SinkNo {
     WantOfMemory,
 }
 
+impl From<rm_base::WantOfMemory> for SinkNo {
+    ghost use Rattle.std.specs.Prelude.{◌≡◌};
+    ghost use Rattle.rm_env.specs.declared.sink.SinkNo.TheVariants.{WantOfMemory};
+
+    ghost from_gives = { λ _ no. no ≡ WantOfMemory };
+
+    fn from(_e: rm_base::WantOfMemory) -> SinkNo {
+        SinkNo::WantOfMemory
+    }
+}
+
 /// Where bytes go.
 ///
 /// `taken` are the bytes taken so far, where the sink tells them. `faults` counts what went wrong; it
