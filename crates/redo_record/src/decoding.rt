@@ -51,6 +51,7 @@ fn next_record(reader: &mut Reader, alloc: Global, end: usize) -> Result<Record,
     }
 }
 
+/// So many records one after the other. `end` is the offset at which the reader's bytes end.
 fn next_records(reader: &mut Reader, alloc: Global, end: usize, count: u16) -> Result<Records, Stop>
     requires { length reader.old ≤ end }
     ensures { DecodesFrom result reader.new (records_at end count reader.old) }
@@ -63,6 +64,7 @@ fn next_records(reader: &mut Reader, alloc: Global, end: usize, count: u16) -> R
     Ok(records)
 }
 
+/// The group at the front of the bytes, and how many bytes it has.
 #[tactic(auto, unfolding(crate::specs::Decoding::group_at, crate::specs::Decoding::group_of))]
 fn group(alloc: Global, bytes: &[u8]) -> Result<(Group, usize), Stop>
     ensures { Decodes result (group_at bytes.now) }

@@ -35,6 +35,8 @@ pub fn fold_laws()
     // From its end on a log is folded whole.
     ensures whole { (gs : List Group) (p n : ℕ) → AreUpTo n gs → page_at gs p n ≡ after_groups gs (unmade p) }
     ensures counted { (n m : ℕ) (gs : List Group) → n + length gs ≤ m → CountsFrom n gs → AreUpTo m gs }
+    ensures ascends { (n : ℕ) (gs : List Group) → CountsFrom n gs → Ascends n gs }
+    ensures counts_on { (n : ℕ) (gs hs : List Group) → CountsFrom n gs → CountsFrom (n + length gs) hs → CountsFrom n (gs ++ hs) }
 
     // The page keeps its number, has the LSN of the last group with a record for it, and no other changes it.
     ensures page { (gs : List Group) (p n : ℕ) → (page_at gs p n).page ≡ p }

@@ -1,20 +1,33 @@
 ghost use Rattle.std.specs.Prelude.{◌≡◌, ◌↔◌, IsTrue, [], length, Some};
 ghost use Rattle.page_image.specs.Image.{LevelFits};
 ghost use Rattle.redo_record.specs.Reading.{level_fits, byte_at, number_at, page_number_at, kind_at, counted_at};
-ghost use Rattle.redo_record.specs.Reads.{Reads};
+ghost use Rattle.redo_record.specs.Reads.{Reads, ReadsIfMemory};
 
 use page_image::{HEADER_BYTES, Kind, PAGE_BYTES};
 use rm_base::{Bytes, Items, PageId, WantOfMemory, get_u16, get_u32};
 use std::alloc::Global;
 use std::marker::Model;
 
-/// Why a field or a record was not read.
+/// The bytes left begin no such field or record.
+#[derive(Clone, Copy, Debug, PartialEq, Eq)]
+pub struct Malformed;
+
+/// Why a field or a record that takes memory was not read.
 #[derive(Clone, Copy, Debug, PartialEq, Eq)]
 pub enum Unread {
-    /// The bytes left begin no such thing.
     Malformed,
-    /// No memory was left for it.
     WantOfMemory,
+}
+
+impl From<Malformed> for Unread {
+    ghost use Rattle.std.specs.Prelude.{◌≡◌};
+    ghost use Rattle.redo_record.specs.declared.reader.Unread.TheVariants.{Malformed as IsMalformed};
+
+    ghost from_gives = { λ _ e. e ≡ IsMalformed };
+
+    fn from(_e: Malformed) -> Unread {
+        Unread::Malformed
+    }
 }
 
 impl From<WantOfMemory> for Unread {
@@ -64,11 +77,11 @@ impl<'a> Reader<'a> {
         self.bytes.is_empty()
     }
 
-    pub fn u8(&mut self) -> Result<u8, Unread>
+    pub fn u8(&mut self) -> Result<u8, Malformed>
         ensures { Reads result self.new (byte_at self.old) }
     {
         match self.bytes {
-            [] => Err(Unread::Malformed),
+            [] => Err(Malformed),
             [byte, rest @ ..] => {
                 self.bytes = rest;
                 Ok(*byte)
@@ -76,22 +89,22 @@ impl<'a> Reader<'a> {
         }
     }
 
-    pub fn u16(&mut self) -> Result<u16, Unread>
+    pub fn u16(&mut self) -> Result<u16, Malformed>
         ensures { Reads result self.new (number_at 2 self.old) }
     {
         if self.bytes.len() < 2 {
-            return Err(Unread::Malformed);
+            return Err(Malformed);
         }
         let number = get_u16(self.bytes, 0);
         self.bytes = &self.bytes[2..];
         Ok(number)
     }
 
-    pub fn u32(&mut self) -> Result<u32, Unread>
+    pub fn u32(&mut self) -> Result<u32, Malformed>
         ensures { Reads result self.new (number_at 4 self.old) }
     {
         if self.bytes.len() < 4 {
-            return Err(Unread::Malformed);
+            return Err(Malformed);
         }
         let number = get_u32(self.bytes, 0);
         self.bytes = &self.bytes[4..];
@@ -100,35 +113,35 @@ impl<'a> Reader<'a> {
 
     /// The number of a page.
     #[tactic(auto, unfolding(crate::specs::Reading::page_number_at))]
-    pub fn page(&mut self) -> Result<PageId, Unread>
+    pub fn page(&mut self) -> Result<PageId, Malformed>
         ensures { Reads result self.new (page_number_at self.old) }
     {
         let number = self.u32()?;
         match PageId::new(number) {
             Some(page) => Ok(page),
-            None => Err(Unread::Malformed),
+            None => Err(Malformed),
         }
     }
 
     /// The kind that a page is made of.
     #[tactic(auto, unfolding(crate::specs::Reading::kind_at))]
-    pub fn kind(&mut self) -> Result<Kind, Unread>
+    pub fn kind(&mut self) -> Result<Kind, Malformed>
         ensures { Reads result self.new (kind_at self.old) }
     {
         let number = self.u8()?;
         if number < 1 {
-            return Err(Unread::Malformed);
+            return Err(Malformed);
         }
         match Kind::from_number(number) {
             Some(kind) => Ok(kind),
-            None => Err(Unread::Malformed),
+            None => Err(Malformed),
         }
     }
 
     /// Bytes behind their number, a patch or an item.
     #[tactic(auto, unfolding(crate::specs::Reading::counted_at))]
     pub fn counted(&mut self, alloc: Global) -> Result<Bytes, Unread>
-        ensures { Reads result self.new (counted_at self.old) }
+        ensures { ReadsIfMemory result self.new (counted_at self.old) }
     {
         let n = usize::from(self.u16()?);
         if n < 1 || n > PAGE_BYTES - HEADER_BYTES || n > self.bytes.len() {

@@ -1,4 +1,4 @@
-use Rattle.redo_record.proofs.Fold.{page_at-append, page_at-past, page_at-one_more, page_at-all, CountsFrom-up_to, page_at-page, page_at-lsn, page_at-lsn_le, after_groups-other, GroupsApply-append, GroupsApply-first, GroupsApply-rest}
+use Rattle.redo_record.proofs.Fold.{page_at-append, page_at-past, page_at-one_more, page_at-all, CountsFrom-up_to, CountsFrom-ascends, CountsFrom-append, page_at-page, page_at-lsn, page_at-lsn_le, after_groups-other, GroupsApply-append, GroupsApply-first, GroupsApply-rest}
 use Rattle.redo_record.proofs.Merging.{merged-page_at}
 use Rattle.redo_record.proofs.laws.fold_laws.Goals as goal
 
@@ -16,6 +16,12 @@ returns-clause-whole c = page_at-all
 
 pub returns-clause-counted : goal.returns-clause-counted
 returns-clause-counted c = CountsFrom-up_to
+
+pub returns-clause-ascends : goal.returns-clause-ascends
+returns-clause-ascends c = CountsFrom-ascends
+
+pub returns-clause-counts_on : goal.returns-clause-counts_on
+returns-clause-counts_on c = CountsFrom-append
 
 pub returns-clause-page : goal.returns-clause-page
 returns-clause-page c = page_at-page
