@@ -1,5 +1,5 @@
 -- A search for the first fault, step by step, and what it means that there is none.
-use Rattle.std.proofs.Common.{◌≡◌, ◌≤◌, ◌<◌, ◌+◌, ◌-◌, ◌*◌, ℕ, zero, suc, Bool, true, false, cond, List, Option, Some, None, nat_lt, nat_le, refl, sym, ◌∙◌, ap, ⊎_elim, arith}
+use Rattle.std.proofs.Common.{◌≡◌, ◌≤◌, ◌<◌, ◌+◌, ◌-◌, ◌*◌, ℕ, zero, suc, Bool, true, false, cond, List, Some, None, nat_lt, nat_le, refl, sym, ◌∙◌, ap, ⊎_elim, arith}
 use Rattle.std.proofs.lemmas.Bool.{cases_Bool, and_parts, ltb-true, leb-true, cases_eq}
 use Rattle.page_image.specs.Layout.{end_of}
 use Rattle.page_image.specs.Faults.{first_failing, slot_holds}

@@ -1,9 +1,9 @@
 -- A page keeps all rules.
-use Rattle.std.proofs.Common.{◌≡◌, ◌≤◌, ◌<◌, ◌+◌, ◌-◌, ◌*◌, ◌↔◌, ◌==◌, ◌&&◌, ◌||◌, ℕ, zero, suc, Bool, true, false, cond, List, [], ◌∷◌, ◌++◌, length, take, drop, get_or, slice_index, nat_lt, nat_le, Option, None, Some, refl, sym, ◌∙◌, ap, ⊎_elim, arith, append_assoc, length-append}
+use Rattle.std.proofs.Common.{◌≡◌, ◌≤◌, ◌<◌, ◌+◌, ◌-◌, ◌*◌, ◌==◌, ℕ, Bool, true, false, cond, List, [], ◌∷◌, ◌++◌, length, take, drop, get_or, slice_index, nat_lt, nat_le, Option, None, Some, refl, sym, ◌∙◌, ap, ⊎_elim, arith, append_assoc, length-append}
 use Rattle.std.specs.Option.{option_or, option_map}
 use Rattle.std.proofs.lemmas.List.{take_more, take_all, get_or_append_left, get_or-append_right}
 use Rattle.std.proofs.lemmas.List.Elements.{All-get_or}
-use Rattle.std.proofs.lemmas.Bool.{cases_Bool, false≢true, and_from, lt-ltb, le-leb, eq-eqb}
+use Rattle.std.proofs.lemmas.Bool.{cases_Bool, and_from, lt-ltb, le-leb, eq-eqb}
 use Rattle.page_image.specs.declared.header.Header.{Header}
 use Rattle.page_image.specs.declared.kind.Kind.{Kind}
 use Rattle.page_image.specs.declared.kind.Kind.TheVariants.{Unmade, Meta, Slots, Stamps, Leaf, Inner, Undo}
@@ -13,7 +13,7 @@ use Rattle.page_image.specs.Rules.{IsImage, IsPage}
 use Rattle.page_image.specs.Faults.{slots_hold, lsn_holds, next_holds, low_holds, level_holds, first_broken, header_rules, slot_holds, slot_fault, zero_end, byte_fault, fault}
 use Rattle.page_image.proofs.HeaderLaws.{length-header_bytes, header-first, header-second, header-last}
 use Rattle.page_image.proofs.ItemLaws.{used_is, length-slot_bytes, packed-append}
-use Rattle.page_image.proofs.PageLaws.{page_parts, end_of-page_bytes, rest-slotted, rest-unmade, length-zeros}
+use Rattle.page_image.proofs.PageLaws.{end_of-page_bytes, rest-slotted, rest-unmade, length-zeros}
 use Rattle.page_image.proofs.InsertLaws.{packed_both}
 use Rattle.page_image.proofs.FaultLaws.{pass_all}
 use Rattle.page_image.proofs.ReadLaws.{get_or-zeros}

@@ -1,15 +1,14 @@
 -- Whatever is written to bytes of a body that were lent, the page is a page.
-use Rattle.std.proofs.Common.{◌≡◌, ◌≤◌, ◌+◌, ◌-◌, ℕ, true, List, [], ◌++◌, length, take, drop, refl, sym, ◌∙◌, ap, arith, append_assoc, append-nil, length-append, length-drop}
-use Rattle.std.proofs.lemmas.List.{take_at, drop_at, drop-drop, drop_all, length-take-le}
+use Rattle.std.proofs.Common.{◌≡◌, ◌≤◌, ◌+◌, ◌-◌, ℕ, List, [], ◌++◌, length, take, drop, sym, ◌∙◌, ap, arith, append_assoc, append-nil, length-append, length-drop}
+use Rattle.std.proofs.lemmas.List.{drop-drop, drop_all, length-take-le}
 use Rattle.std.proofs.Math.Seq.{take-append-add, drop-append-add}
 use Rattle.std.proofs.lemmas.Bool.{false≢true}
-use Rattle.page_image.specs.Image.{Image, has_body}
-use Rattle.page_image.specs.Layout.{header_bytes, header_of, rest_bytes, page_bytes, image_of}
-use Rattle.page_image.specs.Rules.{IsImage, IsPage}
+use Rattle.page_image.specs.Image.{Image}
+use Rattle.page_image.specs.Layout.{header_bytes, header_of, page_bytes}
+use Rattle.page_image.specs.Rules.{IsImage}
 use Rattle.page_image.specs.Lending.{CanLend, with_part}
 use Rattle.page_image.proofs.HeaderLaws.{length-header_bytes}
-use Rattle.page_image.proofs.PageLaws.{rest-body, length-page_bytes}
-use Rattle.page_image.proofs.ChangeLaws.{is_page_then, shows_then}
+use Rattle.page_image.proofs.PageLaws.{rest-body}
 use Rattle.page_image.proofs.LessLaws.{patch_plain}
 
 -- the body with w written over it is long enough

@@ -1,23 +1,18 @@
 -- What the steps of a removal, a cut, a link and a patch leave.
-use Rattle.std.proofs.Common.{◌≡◌, ◌≤◌, ◌<◌, ◌+◌, ◌-◌, ◌*◌, ◌^◌, ◌⊎◌, ℕ, suc, Bool, true, false, cond, List, [], ◌∷◌, ◌++◌, length, take, drop, get_or, remove, refl, sym, ◌∙◌, ap, subst, ⊎_elim, arith, append_assoc, append-nil, length-append, length-drop}
-use Rattle.std.proofs.lemmas.List.{drop_at, take-append-drop, length-take-le, drop_more, take_more, drop-drop}
-use Rattle.std.proofs.lemmas.List.Edits.{length-remove}
-use Rattle.std.proofs.lemmas.List.Elements.{All-take, All-drop, All-append}
-use Rattle.std.proofs.lemmas.List.Sums.{sum_by-remove, sum_by-take-le}
+use Rattle.std.proofs.Common.{◌≡◌, ◌≤◌, ◌<◌, ◌+◌, ◌-◌, ◌*◌, ◌^◌, ℕ, Bool, true, false, cond, List, [], ◌++◌, length, take, drop, refl, sym, ◌∙◌, ap, ⊎_elim, arith, append_assoc, append-nil, length-append, length-drop}
+use Rattle.std.proofs.lemmas.List.{drop_at, take-append-drop, length-take-le, drop-drop}
+use Rattle.std.proofs.lemmas.List.Elements.{All-take}
+use Rattle.std.proofs.lemmas.List.Sums.{sum_by-take-le}
 use Rattle.std.proofs.lemmas.Bool.{cases_Bool, false≢true}
-use Rattle.rm_base.specs.Fields.{field}
 use Rattle.page_image.specs.declared.header.Header.{Header}
-use Rattle.page_image.specs.declared.kind.Kind.{Kind}
-use Rattle.page_image.specs.declared.kind.Kind.TheVariants.{Unmade}
-use Rattle.page_image.specs.Image.{Image, is_slotted, is_inner, has_body, used, zeros, structure_after, patched, removed, cut_from, linked, CanPatch, CanRemove, CanCut, CanLink, Follows}
-use Rattle.page_image.specs.Layout.{header_bytes, header_of, packed, slot_bytes, end_of, rest_bytes, page_bytes}
+use Rattle.page_image.specs.Image.{Image, is_slotted, has_body, used, zeros, patched, cut_from, linked, CanPatch, CanCut, CanLink, Follows}
+use Rattle.page_image.specs.Layout.{header_bytes, header_of, packed, slot_bytes, rest_bytes, page_bytes}
 use Rattle.page_image.specs.Rules.{IsImage}
-use Rattle.page_image.specs.Moves.{HasSlots}
 use Rattle.page_image.proofs.HeaderLaws.{length-header_bytes, same_headers}
-use Rattle.page_image.proofs.ItemLaws.{used_is, length-slot_bytes, packed-append}
+use Rattle.page_image.proofs.ItemLaws.{used_is}
 use Rattle.page_image.proofs.PageLaws.{page_parts, length-zeros, no_both, rest-body, drop-page_bytes}
-use Rattle.page_image.proofs.ChangeLaws.{zeros-add, kept_good, structure_small, with_header}
-use Rattle.page_image.proofs.InsertLaws.{Sizes, sizes, edge, front, cut_at, low_is}
+use Rattle.page_image.proofs.ChangeLaws.{kept_good, with_header}
+use Rattle.page_image.proofs.InsertLaws.{Sizes, sizes, edge, front, cut_at}
 
 -- a link
 pub linked_good : (im : Image) (next lsn : ℕ) → IsImage im → CanLink im next → Follows im lsn → lsn < 2 ^ 64 → IsImage (linked im next lsn)

@@ -1,18 +1,18 @@
 -- What the steps of a removal leave, from the page to the page without the item.
 use Rattle.std.proofs.Common.{◌≡◌, ◌≤◌, ◌<◌, ◌+◌, ◌-◌, ◌*◌, ◌^◌, ℕ, suc, Bool, cond, List, [], ◌∷◌, ◌++◌, length, take, drop, get_or, remove, refl, sym, ◌∙◌, ap, arith, append_assoc, length-append, length-drop}
-use Rattle.std.proofs.lemmas.List.{drop_at, take-append-drop, length-take-le, drop_more, take_more}
+use Rattle.std.proofs.lemmas.List.{drop_at, drop_more, take_more}
 use Rattle.std.proofs.lemmas.List.Edits.{length-remove}
 use Rattle.std.proofs.lemmas.List.Elements.{All-take, All-drop, All-append}
 use Rattle.std.proofs.lemmas.List.Sums.{sum_by-remove}
 use Rattle.rm_base.specs.Fields.{field}
 use Rattle.rm_base.proofs.FieldLaws.{length-field}
 use Rattle.page_image.specs.declared.header.Header.{Header}
-use Rattle.page_image.specs.Image.{Image, is_slotted, is_inner, used, zeros, structure_after, removed, CanRemove, Follows}
+use Rattle.page_image.specs.Image.{Image, is_inner, used, zeros, structure_after, removed, CanRemove, Follows}
 use Rattle.page_image.specs.Layout.{header_bytes, header_of, packed, slot_bytes, page_bytes}
 use Rattle.page_image.specs.Rules.{IsImage}
 use Rattle.page_image.specs.Moves.{HasSlots}
 use Rattle.page_image.proofs.HeaderLaws.{length-header_bytes, same_headers}
-use Rattle.page_image.proofs.ItemLaws.{used_is, packed-append}
+use Rattle.page_image.proofs.ItemLaws.{packed-append}
 use Rattle.page_image.proofs.PageLaws.{page_parts, length-zeros}
 use Rattle.page_image.proofs.ChangeLaws.{zeros-add, kept_good, structure_small}
 use Rattle.page_image.proofs.InsertLaws.{Sizes, sizes, edge, front, cut_at, low_is}

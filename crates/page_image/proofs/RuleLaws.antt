@@ -1,23 +1,23 @@
 -- Bytes have no fault exactly where they are a page.
-use Rattle.std.proofs.Common.{◌≡◌, ◌≢◌, ◌≤◌, ◌<◌, ◌+◌, ◌-◌, ◌*◌, ◌^◌, ◌↔◌, ◌==◌, ◌&&◌, ◌||◌, ◌⊎◌, ℕ, zero, suc, Bool, true, false, cond, List, [], ◌∷◌, ◌++◌, length, take, drop, get_or, slice_index, slice_range, nat_lt, nat_le, Option, None, Some, All, refl, sym, ◌∙◌, ap, subst, inl, inr, ⊎_elim, arith, append_assoc, append-nil, length-append, length-drop}
+use Rattle.std.proofs.Common.{◌≡◌, ◌≤◌, ◌<◌, ◌+◌, ◌-◌, ◌*◌, ◌^◌, ◌↔◌, ◌==◌, ◌&&◌, ◌||◌, ℕ, zero, suc, Bool, true, false, cond, List, [], ◌++◌, length, take, drop, slice_index, slice_range, nat_lt, nat_le, Option, None, Some, refl, sym, ◌∙◌, ap, subst, ⊎_elim, arith, length-drop}
 use Rattle.std.specs.Option.{option_or, option_map}
-use Rattle.std.proofs.lemmas.List.{drop-drop, take-append-drop, length-take-le, take_all, get_or-drop, get_or_append_left, get_or-append_right, get_or-take}
-use Rattle.std.proofs.lemmas.List.Elements.{All-nil, All-get_or}
+use Rattle.std.proofs.lemmas.List.{drop-drop, take-append-drop, take_all, get_or-drop, get_or-take}
+use Rattle.std.proofs.lemmas.List.Elements.{All-nil}
 use Rattle.std.proofs.lemmas.Bool.{cases_Bool, false≢true, and_parts, and_from, ltb-true, leb-true, eqb-true, lt-ltb, le-leb, eq-eqb, ne_eqb}
-use Rattle.rm_base.specs.Fields.{field, number, AreBytes}
+use Rattle.rm_base.specs.Fields.{number, AreBytes}
 use Rattle.rm_base.proofs.FieldLaws.{number-lt}
 use Rattle.page_image.specs.declared.header.Header.{Header}
 use Rattle.page_image.specs.declared.kind.Kind.{Kind}
 use Rattle.page_image.specs.declared.kind.Kind.TheVariants.{Unmade, Meta, Slots, Stamps, Leaf, Inner, Undo}
-use Rattle.page_image.specs.Image.{Image, kind_number, kind_with, is_slotted, is_inner, has_body, used, zeros, LevelFits}
+use Rattle.page_image.specs.Image.{Image, is_slotted, is_inner, has_body, used, zeros, LevelFits}
 use Rattle.page_image.specs.Layout.{header_bytes, header_at, header_of, packed, slot_bytes, items_at, end_of, rest_bytes, page_bytes, image_of}
 use Rattle.page_image.specs.Rules.{IsImage, IsPage}
 use Rattle.page_image.specs.Faults.{slots_hold, lsn_holds, next_holds, low_holds, level_holds, first_broken, header_rules, first_failing, slot_holds, slot_fault, zero_end, byte_fault, fault}
-use Rattle.page_image.proofs.HeaderLaws.{length-header_bytes, same_headers}
-use Rattle.page_image.proofs.ItemLaws.{used_is, length-slot_bytes}
-use Rattle.page_image.proofs.PageLaws.{IsPage-page_bytes, rest-slotted, rest-body, rest-unmade, page_parts, end_of-page_bytes, no_both, length-zeros}
-use Rattle.page_image.proofs.FaultLaws.{all_pass, pass_all, slot_says}
-use Rattle.page_image.proofs.ReadLaws.{AreBytes-drop, header_bytes-header_at, Descends, last_place, last_place-le, length-range, length-items_at, slot_bytes-items_at, packed-items_at, some-items_at, zeros_from, get_or-zeros}
+use Rattle.page_image.proofs.HeaderLaws.{same_headers}
+use Rattle.page_image.proofs.ItemLaws.{used_is}
+use Rattle.page_image.proofs.PageLaws.{IsPage-page_bytes, rest-slotted, rest-body, rest-unmade, no_both}
+use Rattle.page_image.proofs.FaultLaws.{all_pass, slot_says}
+use Rattle.page_image.proofs.ReadLaws.{AreBytes-drop, header_bytes-header_at, Descends, last_place, last_place-le, length-range, length-items_at, slot_bytes-items_at, packed-items_at, some-items_at, zeros_from}
 
 -- a rule that holds before others, and these
 rule_holds : (holds : Bool) (at : ℕ) (rest : Option ℕ) → cond holds rest (Some at) ≡ None → (holds ≡ true) × (rest ≡ None)

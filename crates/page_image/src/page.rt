@@ -296,6 +296,7 @@ impl Page {
         requires { CanLend self.old at n }
         ensures* writes_back { sem 𝓛 (LendsPart self.entry at result) }
         ensures value { result.now ≡ slice_range (page_bytes self.old) at (at + n) }
+        ensures len { length result.now ≡ n }
     {
         self.bytes.slice_mut(at..at + n)
     }

@@ -1,4 +1,4 @@
-use Rattle.std.proofs.Common.{◌≡◌, ◌∙◌, refl, arith}
+use Rattle.std.proofs.Common.{◌≡◌, ◌∙◌, refl}
 use Rattle.page_image.specs.Image.{Image, cut_from}
 use Rattle.page_image.specs.Layout.{header_of, image_of}
 use Rattle.page_image.proofs.ChangeLaws.{is_page_then, shows_then}

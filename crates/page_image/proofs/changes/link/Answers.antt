@@ -1,4 +1,4 @@
-use Rattle.std.proofs.Common.{◌≡◌, ◌∙◌, arith}
+use Rattle.std.proofs.Common.{◌≡◌, ◌∙◌}
 use Rattle.page_image.specs.Image.{Image, linked}
 use Rattle.page_image.specs.Layout.{header_of, image_of}
 use Rattle.page_image.proofs.ChangeLaws.{is_page_then, shows_then}

@@ -1,4 +1,4 @@
-use Rattle.std.proofs.Common.{◌≡◌, ◌≤◌, ◌+◌, ◌-◌, ◌*◌, ℕ, [], length, get_or, ap, refl, ◌∙◌, arith}
+use Rattle.std.proofs.Common.{◌≡◌, ◌+◌, ◌-◌, ◌*◌, ℕ, [], length, get_or, ap, refl, ◌∙◌, arith}
 use Rattle.page_image.specs.declared.header.Header.{Header}
 use Rattle.page_image.specs.Image.{Image, removed}
 use Rattle.page_image.specs.Layout.{header_of, image_of, packed}

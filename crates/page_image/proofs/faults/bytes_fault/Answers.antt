@@ -1,5 +1,5 @@
-use Rattle.std.proofs.Common.{◌≡◌, ◌==◌, ◌∙◌, sym, slice_index, ℕ, arith}
-use Rattle.std.proofs.lemmas.Bool.{eq-eqb, ne_eqb}
+use Rattle.std.proofs.Common.{◌==◌, ◌∙◌, sym, slice_index, ℕ}
+use Rattle.std.proofs.lemmas.Bool.{eq-eqb}
 use Rattle.page_image.proofs.FaultLaws.{first_failing-pass}
 use Rattle.page_image.proofs.faults.bytes_fault.Goals as goal
 

@@ -1,4 +1,4 @@
-use Rattle.std.proofs.Common.{◌≡◌, ◌==◌, ◌-◌, ◌≤◌, slice_index}
+use Rattle.std.proofs.Common.{◌≡◌, ◌==◌, ◌-◌, slice_index}
 use Rattle.page_image.specs.Faults.{first_failing}
 use Rattle.page_image.proofs.faults.bytes_fault.Given as goal
 

@@ -1,4 +1,4 @@
-use Rattle.std.proofs.Common.{◌≡◌, ◌+◌, ◌-◌, ◌*◌, ℕ, List, ◌++◌, length, take, drop, ap, ◌∙◌, subst, sym}
+use Rattle.std.proofs.Common.{◌≡◌, ◌*◌, ℕ, List, ◌++◌, length, drop, ap, ◌∙◌, subst, sym}
 use Rattle.page_image.specs.Image.{zeros}
 use Rattle.page_image.specs.Layout.{slot_bytes}
 use Rattle.page_image.specs.Moves.{HasSlots}

@@ -1,7 +1,6 @@
-use Rattle.std.proofs.Common.{◌≡◌, ℕ, List, None, Some, sym, ◌∙◌, ap, subst, refl}
+use Rattle.std.proofs.Common.{◌≡◌, ℕ, List, None, Some, sym, ◌∙◌, subst, refl}
 use Rattle.std.proofs.Math.Facts.{Fits-lt-pow}
 use Rattle.rm_base.specs.Fields.{AreBytes}
-use Rattle.page_image.specs.Layout.{page_bytes}
 use Rattle.page_image.specs.Rules.{IsPage}
 use Rattle.page_image.specs.Faults.{fault}
 use Rattle.page_image.proofs.RuleLaws.{page_from_rules}

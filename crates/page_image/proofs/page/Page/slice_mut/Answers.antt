@@ -1,4 +1,4 @@
-use Rattle.std.proofs.Common.{◌≡◌, ◌+◌, ℕ, List, slice_range, refl, sym, ◌∙◌, ap, subst}
+use Rattle.std.proofs.Common.{◌≡◌, ◌+◌, ℕ, List, slice_range, refl, sym, ◌∙◌, ap, subst, ◌-◌, arith}
 use Rattle.page_image.specs.Image.{Image}
 use Rattle.page_image.specs.Layout.{image_of, page_bytes}
 use Rattle.page_image.specs.Lending.{CanLend, with_part}
@@ -29,5 +29,5 @@ returns c =
             (part_bytes im c.args.at c.args.n bytes.len w bytes.items page.good can page.spelled (bytes.ok.0 ∙ page.length_is))
             ∙ ap (λ (q : Image). with_part q c.args.at w) c.self.view_is,
       ),
-      record { writes_back = tt; value = c.slice_mut.ensures.value ∙ ap (λ (q : List ℕ). slice_range q c.args.at (c.args.at + c.args.n)) (page.spelled ∙ ap page_bytes c.self.view_is) },
+      record { writes_back = tt; value = c.slice_mut.ensures.value ∙ ap (λ (q : List ℕ). slice_range q c.args.at (c.args.at + c.args.n)) (page.spelled ∙ ap page_bytes c.self.view_is); len = c.slice_mut.ensures.len ∙ (let n : c.args.at + c.args.n - c.args.at ≡ c.args.n = omega arith in n) },
     )
