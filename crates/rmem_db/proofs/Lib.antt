@@ -1,0 +1,10 @@
+mod FoldingLaws
+mod ItemLaws
+mod KnownText
+mod OutputLaws
+mod ServingLaws
+mod LineEnds
+mod LineLaws
+mod StatementLaws
+mod TableLaws
+mod TableLogLaws
