@@ -7,13 +7,7 @@ ghost use Rattle.page_image.specs.Faults.{first_broken, header_rules, slot_holds
 use crate::header::Header;
 use crate::kind::Kind;
 use crate::layout::item_end;
-use crate::{HEADER_BYTES, PAGE_BYTES};
-
-/// The largest number of items on a page.
-const MOST_SLOTS: u16 = 1354;
-
-/// The largest number of a page.
-const LAST_PAGE: u32 = 32767;
+use crate::{HEADER_BYTES, LAST_PAGE, MOST_SLOTS, PAGE_BYTES, TOP_LEVEL};
 
 impl Header {
     fn slots_hold(&self) -> bool
@@ -62,7 +56,7 @@ impl Header {
         ensures { result ≡ level_holds self.now }
     {
         match self.kind {
-            Kind::Inner => 1 <= self.level && self.level <= 8,
+            Kind::Inner => 1 <= self.level && self.level <= TOP_LEVEL,
             _ => self.level == 0,
         }
     }

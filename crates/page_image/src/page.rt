@@ -12,7 +12,7 @@ use crate::faults::first_fault;
 use crate::header::Header;
 use crate::kind::Kind;
 use crate::layout::item_end;
-use crate::{HEADER_BYTES, PAGE_BYTES, changes};
+use crate::{HEADER_BYTES, LAST_PAGE, PAGE_BYTES, TOP_LEVEL, changes};
 use rm_base::{Duplicate, Lsn, PageId, WantOfMemory, get_u16, get_u32, get_u64};
 use std::alloc::Global;
 use std::marker::Model;
@@ -161,7 +161,7 @@ impl Page {
     {
         let level_fits = match kind {
             Kind::Unmade => false,
-            Kind::Inner => 1 <= level && level <= 8,
+            Kind::Inner => 1 <= level && level <= TOP_LEVEL,
             _ => level == 0,
         };
         let from = match self.kind() {
@@ -243,7 +243,7 @@ impl Page {
     pub fn can_link(&self, next: u32) -> bool
         ensures { IsTrue result ↔ CanLink self.now next }
     {
-        self.kind().has_items() && next <= 32767
+        self.kind().has_items() && next <= LAST_PAGE
     }
 
     /// Links the page to page `next`, or to none by 0.
