@@ -45,7 +45,6 @@ ready_rows n (g ∷ gs) im counted inserts applies mine older =
       record {
         change = InsertSlot 1028 index item;
         one = one;
-        plain = tt;
         mine = sym mine;
         applies = can.0 (sym mine);
         follows = record { some = omega arith; later = omega arith };
@@ -61,7 +60,6 @@ ready_all log groups h = (
   record {
     change = Make 1028 Leaf 0;
     one = refl;
-    plain = tt;
     mine = refl;
     applies = h.applies.0.0 refl;
     follows = record { some = omega arith; later = omega arith };

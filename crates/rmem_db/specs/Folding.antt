@@ -4,13 +4,12 @@ use Rattle.page_image.specs.Image.{Image, Follows}
 use Rattle.redo_record.specs.declared.redo.Record.{Record}
 use Rattle.redo_record.specs.declared.redo.Group.{Group}
 use Rattle.redo_record.specs.Spelling.{group_bytes, log_bytes, IsGroup, IsLog}
-use Rattle.redo_record.specs.Effect.{page_of, Applies, MakesOrInserts, after_records, after_groups}
+use Rattle.redo_record.specs.Effect.{page_of, Applies, after_records, after_groups}
 
--- the group has one record, for that page, which makes it or puts an item into it and applies to it
+-- the group has one record, for that page, and applies to it
 pub record IsNext (group : Group) (page : Image) : Type 0 where
   pub change : Record
   pub one : group.records ≡ change ∷ []
-  pub plain : MakesOrInserts change
   pub mine : page_of change ≡ page.page
   pub applies : Applies change page
   pub follows : Follows page group.lsn

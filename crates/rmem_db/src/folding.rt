@@ -3,7 +3,7 @@ ghost use Rattle.page_image.specs.Image.{Follows, unmade};
 ghost use Rattle.redo_record.specs.declared.redo.Record.{Record as RecordValue};
 ghost use Rattle.redo_record.specs.declared.redo.Group.{Group as GroupValue};
 ghost use Rattle.redo_record.specs.Spelling.{group_bytes};
-ghost use Rattle.redo_record.specs.Effect.{page_of, Applies, MakesOrInserts, after_records};
+ghost use Rattle.redo_record.specs.Effect.{page_of, Applies, after_records};
 ghost use Rattle.rmem_db.specs.TableLog.{IsTableLog, last_page};
 ghost use Rattle.rmem_db.specs.Folding.{IsNext, StandsNext};
 
