@@ -12,6 +12,8 @@ mod serving;
 mod statement;
 mod statement_reading;
 mod status;
+#[cfg(test)]
+mod tests;
 mod texts;
 mod writing;
 
