@@ -70,6 +70,49 @@ fn lines_are_parted_at_line_feeds(rt: HostRuntime) -> Result<(), Fail> {
     Ok(())
 }
 
+const STATEMENTS: &str = "INSERT INTO t VALUES (0, -1)
+INSERT INTO t VALUES (-9223372036854775808, 9223372036854775807)
+INSERT INTO t VALUES (9223372036854775807, -9223372036854775808)
+SELECT * FROM t
+";
+
+#[test]
+fn rows_stand_by_ascending_key(rt: HostRuntime) -> Result<(), Fail> {
+    let (status, output) = served(rt.alloc(), STATEMENTS.as_bytes(), 65_536)?;
+    assert_eq!(rt; status, Status::Done);
+    let want =
+        "ok 1\nok 1\nok 1\n-9223372036854775808, 9223372036854775807\n0, -1\n9223372036854775807, -9223372036854775808\nrows 3\n";
+    assert_eq!(rt; output.as_slice(), want.as_bytes());
+    Ok(())
+}
+
+#[test]
+fn other_spellings_are_no_statements(rt: HostRuntime) -> Result<(), Fail> {
+    for line in [
+        "INSERT INTO t VALUES (9223372036854775808, 1)",
+        "INSERT INTO t VALUES (01, 1)",
+        "INSERT INTO t VALUES (-0, 1)",
+        "INSERT INTO t VALUES (+1, 1)",
+        "INSERT INTO t VALUES (1,1)",
+        "INSERT INTO t VALUES (1, 1) ",
+        "INSERT INTO t VALUES (1, )",
+        "INSERT INTO t VALUES (",
+        "insert into t values (1, 1)",
+        "SELECT * FROM t\r",
+        "SELECT * FROM u",
+        "CREATE TABLE t (k INT PRIMARY KEY, v INT)",
+    ] {
+        let (status, output) = served(rt.alloc(), line.as_bytes(), 65_536)?;
+        assert_eq!(rt; status, Status::Done);
+        assert_eq!(rt;
+            output.as_slice(),
+            b"error unsupported\n".as_slice(),
+            "at {line}"
+        );
+    }
+    Ok(())
+}
+
 #[test]
 fn a_full_table_takes_no_row(rt: HostRuntime) -> Result<(), Fail> {
     let alloc = rt.alloc();
@@ -125,46 +168,58 @@ fn other_words_are_refused(rt: HostRuntime) -> Result<(), Fail> {
     Ok(())
 }
 
+/// The status of a run over the worked row, and how many bytes of its output the sink took.
+fn broken(alloc: Global, read_fails: u64, write_fails: u64) -> Result<(Status, usize, bool), Fail> {
+    let bytes = Items::from_vec(ROW.as_bytes().to_vec(alloc)?);
+    let mut source = MemSource::new(bytes, vec![in alloc; read_fails]?).in_pieces(40);
+    let mut sink = MemSink::new(alloc, vec![in alloc; write_fails]?);
+    let status = run(alloc, &serve(alloc)?, &mut source, &mut sink);
+    let taken = sink.taken();
+    Ok((
+        status,
+        taken.len(),
+        ROW_OUTPUT.as_bytes().starts_with(taken),
+    ))
+}
+
 #[test]
-fn each_failing_call_ends_the_run_by_its_status(rt: HostRuntime) -> Result<(), Fail> {
-    let alloc = rt.alloc();
-    // The row comes in 4 reads, of which the last finds the end, and its output goes in 7 writes.
-    for call in 1..9 {
-        let bytes = Items::from_vec(ROW.as_bytes().to_vec(alloc)?);
-        let mut source = MemSource::new(bytes, vec![in alloc; call]?).in_pieces(40);
-        let mut sink = QuietSink::new(alloc);
-        let status = run(alloc, &serve(alloc)?, &mut source, &mut sink);
+fn a_failing_read_leaves_the_replies_to_whole_lines(rt: HostRuntime) -> Result<(), Fail> {
+    // The row comes in 3 reads of at most 40 bytes, and the fourth finds the end.
+    for (call, end, taken) in [
+        (1, Status::ReadFault, 0),
+        (2, Status::ReadFault, 5),
+        (3, Status::ReadFault, 10),
+        (4, Status::ReadFault, 65),
+        (5, Status::Done, 65),
+        (6, Status::Done, 65),
+        (7, Status::Done, 65),
+        (8, Status::Done, 65),
+    ] {
         assert_eq!(rt;
-            status,
-            if call < 5 {
-                Status::ReadFault
-            } else {
-                Status::Done
-            }
-        );
-        let taken = [0, 5, 10, 65, 65][usize::min(call as usize, 5) - 1];
-        assert_eq!(rt;
-            sink.taken(),
-            &ROW_OUTPUT.as_bytes()[..taken],
+            broken(rt.alloc(), call, 0)?,
+            (end, taken, true),
             "read {call}"
         );
+    }
+    Ok(())
+}
 
-        let bytes = Items::from_vec(ROW.as_bytes().to_vec(alloc)?);
-        let mut source = QuietSource::new(bytes);
-        let mut sink = MemSink::new(alloc, vec![in alloc; call]?);
-        let status = run(alloc, &serve(alloc)?, &mut source, &mut sink);
+#[test]
+fn a_failing_write_leaves_the_pieces_before_it(rt: HostRuntime) -> Result<(), Fail> {
+    // The row's output are 7 lines, each of them one piece.
+    for (call, end, taken) in [
+        (1, Status::WriteFault, 0),
+        (2, Status::WriteFault, 5),
+        (3, Status::WriteFault, 10),
+        (4, Status::WriteFault, 28),
+        (5, Status::WriteFault, 34),
+        (6, Status::WriteFault, 40),
+        (7, Status::WriteFault, 47),
+        (8, Status::Done, 65),
+    ] {
         assert_eq!(rt;
-            status,
-            if call < 8 {
-                Status::WriteFault
-            } else {
-                Status::Done
-            }
-        );
-        let taken = [0, 5, 10, 28, 34, 40, 47, 65][usize::min(call as usize, 8) - 1];
-        assert_eq!(rt;
-            sink.taken(),
-            &ROW_OUTPUT.as_bytes()[..taken],
+            broken(rt.alloc(), 0, call)?,
+            (end, taken, true),
             "write {call}"
         );
     }

@@ -30,7 +30,7 @@ impl Source for Watched {
         if self.reads == 5 {
             return Ok(0);
         }
-        self.reads += 1;
+        self.reads = self.reads.saturating_add(1);
         buf[..line.len()].copy_from_slice(line.as_slice());
         Ok(line.len())
     }
