@@ -1,6 +1,8 @@
 -- A search by halves among keys that ascend.
-use Rattle.std.proofs.Common.{◌≡◌, ◌<◌, ◌+◌, ℕ, zero, suc, List, [], length, slice_index_or, slice_get, Some, sym, ◌∙◌, ap, subst, arith, inl, inr}
+use Rattle.std.proofs.Common.{◌≡◌, ◌<◌, ◌+◌, ◌^◌, ◌≤◌, ◌*◌, ℕ, zero, suc, List, [], length, slice_index_or, slice_get, Some, sym, ◌∙◌, ap, subst, arith, inl, inr}
 use Rattle.std.proofs.lemmas.Bool.{cases_lt}
+use Rattle.std.proofs.lemmas.Nat.{pow-add}
+use Rattle.std.proofs.Math.Nat.{mul-le-mul_right, pow-suc}
 use Rattle.std.specs.declared.cmp.Ordering.TheVariants.{Less, Equal, Greater}
 use Rattle.std.specs.Ordering.{ordering_reverse}
 use Rattle.std.proofs.lemmas.Cmp.{nat_list_cmp_total, tied_itself}
@@ -60,3 +62,32 @@ ascend_from keys next i (suc j) h inside =
           (ascend_from keys next i j before (omega arith)) step
       | inr last ↦ let same : j ≡ i = omega arith in subst (λ (n : ℕ). key_cmp (slice_index_or keys n []) (slice_index_or keys (suc j) []) ≡ Less) same step
     ]
+
+-- half as many places, after twice as many halvings
+pub halved_again : (s t looks n : ℕ) → t * 2 ≤ s → s * 2 ^ looks ≤ n → t * 2 ^ (looks + 1) ≤ n
+halved_again s t looks n h e =
+    let p : ℕ = 2 ^ looks in
+    let twice : 2 ^ (looks + 1) ≡ p * 2 = pow-add 2 looks 1 in
+    let less : t * 2 * p ≤ s * p = mul-le-mul_right p h in
+    let regrouped : t * (p * 2) ≡ t * 2 * p = regroup t p in
+    rw twice (omega (arith, less, regrouped, e))
+  where
+    regroup : (t p : ℕ) → t * (p * 2) ≡ t * 2 * p
+    regroup t p = grind arith
+
+-- where a place is left, the halvings so far are few, and one more is
+pub few_looks : (s looks n : ℕ) → 0 < s → s * 2 ^ looks ≤ n → (2 ^ looks ≤ n) × (2 ^ (looks + 1) ≤ 2 * n + 1)
+few_looks s looks n h e =
+    let p : ℕ = 2 ^ looks in
+    let twice : 2 ^ (looks + 1) ≡ p * 2 = pow-add 2 looks 1 in
+    let one : 1 * p ≤ s * p = mul-le-mul_right p h in
+    (omega (arith, one, e), rw twice (omega (arith, one, e)))
+
+-- a number is below its power of two
+below_power : (n : ℕ) → n < 2 ^ n
+below_power zero = omega arith
+below_power (suc n) = let ih = below_power n in let twice : 2 ^ suc n ≡ 2 ^ n * 2 = pow-suc 2 n in omega (arith, ih, twice)
+
+-- a count of halvings stays below what was halved
+pub looks_below : (s looks n : ℕ) → 0 < s → s * 2 ^ looks ≤ n → looks < n
+looks_below s looks n h e = let few = (few_looks s looks n h e).0 in let below = below_power looks in omega (arith, few, below)

@@ -1,4 +1,4 @@
-use crate::*;
+use crate::{search, *};
 use page_image::{Kind, Page};
 use rm_base::{Lsn, PageId, WantOfMemory};
 use std::alloc::Global;
@@ -179,4 +179,43 @@ fn child_place(view: &InnerView<'_>, key: &[u8]) -> Option<usize> {
         return Some(view.child_for(key));
     }
     None
+}
+
+/// An inner page of 400 items, whose keys are the numbers from 0 on in two bytes.
+fn numbered(alloc: Global) -> Result<Option<Page>, WantOfMemory> {
+    let mut page = Page::blank(alloc, PageId::new(1028).unwrap())?;
+    if !page.can_make(Kind::Inner, 1) {
+        return Ok(None);
+    }
+    page.make(Kind::Inner, 1, Lsn::new(1));
+    for n in 0..400u16 {
+        let [high, low] = n.to_be_bytes();
+        let item = [2, high, low, 0, 0, 4, 4];
+        if page.lsn().number() > 1 || !page.can_insert(n, &item) {
+            return Ok(None);
+        }
+        page.insert_item(n, &item, Lsn::new(1));
+    }
+    Ok(Some(page))
+}
+
+fn looks(page: &Page, key: &[u8]) -> Option<(Result<usize, usize>, u32)> {
+    if search::keys_ascend(page) {
+        Some(search::halve(page, key))
+    } else {
+        None
+    }
+}
+
+#[test]
+fn each_of_400_keys_is_found_in_9_looks_at_most(rt: HostRuntime) -> Result<(), Fail> {
+    let page = numbered(rt.alloc())?.ok_or("no page")?;
+    let mut most = 0;
+    for n in 0..400u16 {
+        let (found, looks) = looks(&page, &n.to_be_bytes()).ok_or("the keys do not ascend")?;
+        assert_eq!(rt; found, Ok(usize::from(n)));
+        most = looks.max(most);
+    }
+    assert_eq!(rt; most, 9);
+    Ok(())
 }
