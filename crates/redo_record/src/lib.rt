@@ -6,6 +6,7 @@ mod applying;
 mod decoding;
 mod encoding;
 mod laws;
+mod plans;
 mod reader;
 mod record_reader;
 mod redo;
@@ -14,6 +15,7 @@ pub use applying::{BadApply, apply};
 pub use decoding::{BadRecord, decode};
 pub use encoding::encode;
 pub use laws::{fold_laws, grammar_laws};
+pub use plans::{Path, Plan, PlanKind, TreeNo};
 pub use redo::{Group, Groups, Record, Records};
 
 #[cfg(test)]
