@@ -1,0 +1,17 @@
+use rm_base::PageId;
+
+/// The level of the highest page that a tree can have; leaves are at level 0.
+pub const HIGHEST_LEVEL: u8 = 8;
+
+/// How often a search goes on from a leaf at most: once less than there are pages.
+pub const MOST_STEPS: u32 = 32767;
+
+/// What a search asks for next.
+#[derive(Clone, Copy, Debug, PartialEq, Eq)]
+pub enum Want {
+    /// A page on the way down, or one that is not known to be a leaf.
+    Need(PageId),
+    /// A leaf of the result. Its items are to be taken before the search is told of it.
+    Leaf(PageId),
+    Finished,
+}
