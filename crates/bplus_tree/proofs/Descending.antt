@@ -1,22 +1,20 @@
 -- The way down a tree that stands ends at the leaf whose range holds the key.
-use Rattle.std.proofs.Common.{◌≡◌, ◌≢◌, ◌<◌, ◌≤◌, ◌+◌, ℕ, zero, suc, List, [], ◌∷◌, ◌++◌, length, map, slice_get, slice_index_or, Option, Some, None, ◌⊎◌, inl, inr, refl, sym, ◌∙◌, ap, subst, arith}
-use Rattle.std.specs.List.{AllByRecursion, filter, flat_map}
-use Rattle.std.specs.declared.cmp.Ordering.TheVariants.{Less, Equal, Greater}
-use Rattle.std.specs.Prelude.{⊤}
+use Rattle.std.proofs.Common.{◌≡◌, ◌≢◌, ◌<◌, ◌+◌, ℕ, zero, suc, List, [], ◌∷◌, ◌++◌, length, map, slice_get, slice_index_or, Option, Some, inl, inr, refl, sym, ◌∙◌, ap, subst, arith}
+use Rattle.std.specs.List.{AllByRecursion}
+use Rattle.std.specs.declared.cmp.Ordering.TheVariants.{Less, Greater}
 use Rattle.std.proofs.lemmas.List.Elements.{filter-append}
 use Rattle.std.proofs.lemmas.Grind.{flat_map-append}
 use Rattle.page_image.specs.Image.{Image}
-use Rattle.page_image.specs.declared.kind.Kind.{Kind}
 use Rattle.page_image.specs.declared.kind.Kind.TheVariants as kind
 use Rattle.page_view.specs.Inner.{InnerItem, inner_bytes, IsInner}
 use Rattle.page_view.specs.Keys.{key_in, keys_of, key_cmp, Ascend, IsChildFor, GreaterFrom}
 use Rattle.page_view.specs.Leaf.{HoldsLeaf}
 use Rattle.page_view.proofs.SearchLaws.{greater_from}
-use Rattle.bplus_tree.specs.Tree.{NotBelow, Beyond, Below, IsLeafPage, IsInnerPage, Parts, Stands, is_leaf, leaves_of, Way}
-use Rattle.bplus_tree.specs.Walk.{IsLeafToRead, IsInnerToRead, LeadsTo, Answers}
+use Rattle.bplus_tree.specs.Tree.{NotBelow, Below, IsLeafPage, IsInnerPage, Parts, Stands, is_leaf, leaves_of, Way}
+use Rattle.bplus_tree.specs.Walk.{IsLeafToRead, LeadsTo, Answers}
 use Rattle.bplus_tree.specs.Found.{AllLess, AllMore, items_of}
-use Rattle.bplus_tree.proofs.Order.{turned, turned_back, less_less, less_upto, upto_less, less_or_not, least_key, all_map, all_join}
-use Rattle.bplus_tree.proofs.Ranges.{Within, within, parts_within, one_leaf, no_leaf, append_nil}
+use Rattle.bplus_tree.proofs.Order.{turned, less_upto, less_or_not, least_key, all_map, all_join}
+use Rattle.bplus_tree.proofs.Ranges.{Within, within, parts_within, one_leaf, no_leaf}
 use Rattle.bplus_tree.proofs.Entries.{key_at, each_at, lengths}
 
 -- the steps down from a page to a leaf, as a search makes them

@@ -1,5 +1,5 @@
 -- The entries and items of a page at a place.
-use Rattle.std.proofs.Common.{◌≡◌, ◌<◌, ◌-◌, ℕ, zero, suc, List, [], ◌∷◌, length, map, slice_get, slice_index_or, Option, Some, None, refl, sym, ◌∙◌, ap, subst, arith, IsSome}
+use Rattle.std.proofs.Common.{◌≡◌, ◌<◌, ℕ, zero, suc, List, [], ◌∷◌, length, map, slice_get, slice_index_or, Option, Some, None, refl, sym, ◌∙◌, ap, subst, arith, IsSome}
 use Rattle.std.specs.List.{AllByRecursion}
 use Rattle.page_view.specs.Inner.{InnerItem, inner_bytes, IsInner}
 use Rattle.rm_base.specs.Fields.{field}

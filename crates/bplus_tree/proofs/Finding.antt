@@ -1,7 +1,7 @@
 -- What searches find in a tree that stands.
-use Rattle.std.proofs.Common.{◌≡◌, ◌≢◌, ◌<◌, ◌≤◌, ◌+◌, ◌-◌, ◌||◌, ◌&&◌, Bool, true, false, not, ℕ, zero, suc, List, [], ◌∷◌, ◌++◌, length, map, Option, Some, None, ◌⊎◌, inl, inr, refl, sym, ◌∙◌, ap, subst, arith}
+use Rattle.std.proofs.Common.{◌≡◌, ◌<◌, ◌≤◌, ◌+◌, ◌||◌, ◌&&◌, Bool, true, false, not, ℕ, zero, suc, List, [], ◌∷◌, ◌++◌, length, map, Option, Some, None, inl, refl, sym, ◌∙◌, ap, subst, arith}
 use Rattle.std.specs.Prelude.{nat_eq}
-use Rattle.std.specs.List.{AllByRecursion, IsDistinct, filter, flat_map, list_any}
+use Rattle.std.specs.List.{AllByRecursion, filter, list_any}
 use Rattle.std.specs.Ordering.{is_lt, is_eq}
 use Rattle.std.specs.declared.cmp.Ordering.{Ordering}
 use Rattle.std.specs.declared.cmp.Ordering.TheVariants.{Less, Equal, Greater}
@@ -16,14 +16,14 @@ use Rattle.page_image.specs.declared.kind.Kind.TheVariants as kind
 use Rattle.page_view.specs.Inner.{InnerItem, IsInner}
 use Rattle.page_view.specs.Keys.{key_in, key_cmp}
 use Rattle.bplus_tree.specs.declared.want.Want.{Want}
-use Rattle.bplus_tree.specs.declared.want.Want.TheVariants.{Need, Leaf, Finished}
-use Rattle.bplus_tree.specs.Tree.{Parts, Stands, Tree, Linked, is_leaf, leaves_of, NotBelow, Below}
-use Rattle.bplus_tree.specs.Walk.{Walking, Runs, Answers, start, sought, is_last, one_key, at_least, in_range, from_low, to_high}
-use Rattle.bplus_tree.specs.Found.{AllLess, AllMore, items_of, FindsLeaf, FindsRange}
-use Rattle.bplus_tree.proofs.Order.{turned, less_upto, upto_less, least_key, Sorted, sorted_right, all_map, all_right}
+use Rattle.bplus_tree.specs.declared.want.Want.TheVariants.{Leaf}
+use Rattle.bplus_tree.specs.Tree.{Parts, Stands, Tree, Linked, is_leaf, leaves_of}
+use Rattle.bplus_tree.specs.Walk.{Walking, Runs, Answers, start, sought, one_key, in_range, from_low, to_high}
+use Rattle.bplus_tree.specs.Found.{items_of, FindsLeaf, FindsRange}
+use Rattle.bplus_tree.proofs.Order.{turned, least_key, Sorted, sorted_right, all_map, all_right}
 use Rattle.bplus_tree.proofs.Ranges.{Within, within}
 use Rattle.bplus_tree.proofs.Descending.{Holds, descend, answering}
-use Rattle.bplus_tree.proofs.Running.{AllOut, Along, run_down, run_along, run_last, and_false}
+use Rattle.bplus_tree.proofs.Running.{Along, run_down, run_along, run_last, and_false}
 use Rattle.bplus_tree.proofs.Telling.{one_leaf}
 
 -- ---- how many leaves there are

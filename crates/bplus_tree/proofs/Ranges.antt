@@ -1,18 +1,15 @@
 -- The items of a part of a tree ascend within its bounds, and are those of its leaves in order.
-use Rattle.std.proofs.Common.{◌≡◌, ◌≢◌, ◌<◌, ◌≤◌, ◌+◌, ℕ, zero, suc, List, [], ◌∷◌, ◌++◌, length, map, Option, Some, None, refl, sym, ◌∙◌, ap, subst, arith}
-use Rattle.std.specs.List.{AllByRecursion, filter, flat_map}
-use Rattle.std.specs.declared.cmp.Ordering.TheVariants.{Less, Equal, Greater}
-use Rattle.std.specs.Prelude.{⊤}
+use Rattle.std.proofs.Common.{◌≡◌, ◌≢◌, ℕ, zero, suc, List, [], ◌∷◌, ◌++◌, Option, Some, None, refl, sym, ◌∙◌, ap, subst}
+use Rattle.std.specs.List.{AllByRecursion, flat_map}
+use Rattle.std.specs.declared.cmp.Ordering.TheVariants.{Less, Greater}
 use Rattle.std.proofs.lemmas.List.Elements.{filter-append}
 use Rattle.std.proofs.lemmas.Grind.{flat_map-append}
 use Rattle.page_image.specs.Image.{Image}
-use Rattle.page_image.specs.declared.kind.Kind.{Kind}
 use Rattle.page_image.specs.declared.kind.Kind.TheVariants as kind
 use Rattle.page_view.specs.Inner.{InnerItem}
-use Rattle.page_view.specs.Keys.{key_in, keys_of, key_cmp, Ascend}
-use Rattle.bplus_tree.specs.Tree.{NotBelow, Beyond, Below, IsLeafPage, IsInnerPage, Parts, Stands, is_leaf, leaves_of}
-use Rattle.bplus_tree.specs.Found.{AllLess, AllMore}
-use Rattle.bplus_tree.proofs.Order.{less_less, less_upto, upto_less, not_greater, Sorted, all_map, all_join, sorted_join, sorted_from}
+use Rattle.page_view.specs.Keys.{key_in, key_cmp}
+use Rattle.bplus_tree.specs.Tree.{NotBelow, Beyond, Below, Parts, Stands, is_leaf, leaves_of}
+use Rattle.bplus_tree.proofs.Order.{less_less, less_upto, not_greater, Sorted, all_map, all_join, sorted_join, sorted_from}
 
 -- below a key that is below the bound
 pub below_less : (high : Option (List ℕ)) (a b : List ℕ) → key_cmp a b ≡ Less → Below high b → Below high a

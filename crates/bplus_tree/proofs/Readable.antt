@@ -1,10 +1,10 @@
 -- Pages that can be read, item by item.
-use Rattle.std.proofs.Common.{◌≡◌, ◌<◌, ◌+◌, Bool, true, false, ℕ, zero, suc, List, [], ◌∷◌, ◌++◌, length, map, take, slice_get, Option, Some, None, refl, sym, ◌∙◌, ap, subst, arith}
+use Rattle.std.proofs.Common.{◌≡◌, ◌+◌, true, false, ℕ, zero, suc, List, [], ◌∷◌, map, take, slice_get, Option, Some, None, refl, sym, ◌∙◌, ap, subst, arith}
 use Rattle.std.specs.Prelude.{IsSome}
 use Rattle.std.specs.List.{AllByRecursion}
 use Rattle.rm_base.specs.Fields.{AreBytes}
 use Rattle.page_view.specs.Inner.{InnerItem, inner_bytes, IsInner, IsInnerOrNone}
-use Rattle.page_view.specs.Leaf.{leaf_bytes, leaf_of, IsLeaf, HoldsLeaf, IsLeafOrNone}
+use Rattle.page_view.specs.Leaf.{leaf_of, HoldsLeaf, IsLeafOrNone}
 use Rattle.page_view.specs.declared.leaf.LeafItem.{LeafItem}
 use Rattle.page_view.proofs.LeafLaws.{leaf_reads, leaf_holds}
 use Rattle.page_image.specs.Image.{Image}

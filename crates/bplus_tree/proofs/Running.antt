@@ -1,7 +1,7 @@
 -- A search over the pages of a tree that stands: down, and along the leaves.
-use Rattle.std.proofs.Common.{◌≡◌, ◌≢◌, ◌<◌, ◌≤◌, ◌+◌, ◌-◌, ◌||◌, ◌&&◌, ◌==◌, nat_le, Bool, true, false, not, ℕ, zero, suc, List, [], ◌∷◌, ◌++◌, length, map, slice_get, slice_index_or, Option, Some, None, ◌⊎◌, inl, inr, refl, sym, ◌∙◌, ap, subst, arith}
-use Rattle.std.specs.List.{AllByRecursion, filter, flat_map}
-use Rattle.std.specs.Ordering.{is_lt, is_eq, ordering_reverse}
+use Rattle.std.proofs.Common.{◌≡◌, ◌≢◌, ◌<◌, ◌≤◌, ◌+◌, ◌-◌, ◌||◌, ◌&&◌, ◌==◌, nat_le, Bool, true, false, not, ℕ, suc, List, [], ◌∷◌, ◌++◌, length, map, slice_get, Option, Some, None, ◌⊎◌, inl, inr, refl, sym, ◌∙◌, ap, subst, arith}
+use Rattle.std.specs.List.{AllByRecursion}
+use Rattle.std.specs.Ordering.{is_lt, ordering_reverse}
 use Rattle.std.proofs.lemmas.Cmp.{nat_list_cmp_total}
 use Rattle.std.specs.declared.cmp.Ordering.{Ordering}
 use Rattle.std.specs.declared.cmp.Ordering.TheVariants.{Less, Equal, Greater}
@@ -9,16 +9,16 @@ use Rattle.std.proofs.lemmas.Bool.{cases_lt}
 use Rattle.page_image.specs.Image.{Image}
 use Rattle.page_image.specs.declared.kind.Kind.{Kind}
 use Rattle.page_image.specs.declared.kind.Kind.TheVariants as kind
-use Rattle.page_view.specs.Inner.{InnerItem, inner_bytes, IsInner}
-use Rattle.page_view.specs.Keys.{key_in, keys_of, key_cmp, Ascend, IsChildFor, GreaterFrom}
+use Rattle.page_view.specs.Inner.{InnerItem, inner_bytes}
+use Rattle.page_view.specs.Keys.{key_in, keys_of, key_cmp, IsChildFor}
 use Rattle.page_view.proofs.InnerLaws.{one_inner}
 use Rattle.bplus_tree.specs.declared.want.Want.{Want}
 use Rattle.bplus_tree.specs.declared.want.Want.TheVariants.{Need, Leaf, Finished}
-use Rattle.bplus_tree.specs.declared.want.TheConstants.{HIGHEST_LEVEL, MOST_STEPS}
+use Rattle.bplus_tree.specs.declared.want.TheConstants.{MOST_STEPS}
 use Rattle.bplus_tree.specs.Tree.{Linked}
-use Rattle.bplus_tree.specs.Walk.{Walking, Told, Moves, Runs, LeadsTo, Answers, sought, wanted, is_last, reaches, reaches_with, one_key, after_leaf, after_inner, at_least, in_range, from_low, to_high}
-use Rattle.bplus_tree.specs.Found.{AllLess, AllMore, items_of}
-use Rattle.bplus_tree.proofs.Order.{less_upto, upto_less, Sorted, sorted_right, all_map}
+use Rattle.bplus_tree.specs.Walk.{Walking, Told, Moves, Runs, LeadsTo, Answers, sought, wanted, is_last, reaches, reaches_with, one_key, after_leaf, after_inner, at_least, in_range, from_low}
+use Rattle.bplus_tree.specs.Found.{AllMore, items_of}
+use Rattle.bplus_tree.proofs.Order.{upto_less, Sorted, sorted_right, all_map}
 use Rattle.bplus_tree.proofs.Descending.{Steps}
 
 -- ---- one step

@@ -1,16 +1,15 @@
 -- What a page tells a search, case by case.
-use Rattle.std.proofs.Common.{◌≡◌, ◌≢◌, ◌<◌, ◌≤◌, ◌+◌, ◌-◌, ◌||◌, ◌==◌, nat_le, ℕ, Bool, true, false, not, List, [], ◌∷◌, Option, Some, None, ◌⊎◌, inl, inr, refl, sym, ◌∙◌, ap, subst, arith}
+use Rattle.std.proofs.Common.{◌≡◌, ◌≢◌, ◌<◌, ◌≤◌, ◌+◌, ◌||◌, ◌==◌, nat_le, ℕ, Bool, true, false, List, Some, None, ◌⊎◌, inl, inr, refl, sym, ◌∙◌, ap, subst, arith}
 use Rattle.std.specs.Ordering.{is_eq}
 use Rattle.std.proofs.lemmas.Bool.{cases_lt}
 use Rattle.std.proofs.lemmas.Cmp.{nat_list_cmp_total, tied_itself}
 use Rattle.page_image.specs.declared.kind.Kind.{Kind}
 use Rattle.page_image.specs.declared.kind.Kind.TheVariants as kind
 use Rattle.page_image.specs.Image.{Image}
-use Rattle.page_view.specs.Keys.{key_cmp}
 use Rattle.bplus_tree.specs.declared.want.Want.{Want}
 use Rattle.bplus_tree.specs.declared.want.Want.TheVariants.{Need, Leaf, Finished}
 use Rattle.bplus_tree.specs.declared.want.TheConstants.{MOST_STEPS}
-use Rattle.bplus_tree.specs.Walk.{Walking, Moves, Told, LeadsTo, sought, is_last, reaches, one_key, after_leaf, after_inner, IsToRead, wanted, pages_left, left_by}
+use Rattle.bplus_tree.specs.Walk.{Walking, Moves, Told, LeadsTo, sought, is_last, reaches, one_key, after_leaf, IsToRead, wanted, pages_left, left_by}
 
 pub named : (at : ℕ) (k : Kind) (w : Walking) (im : Image) (new : Walking) → k ≡ kind.Leaf → new ≡ record w { want = Leaf at }
     → Moves (Need at) k w im new

@@ -1,11 +1,11 @@
 -- What a search finds in a tree that stands.
-use Rattle.std.specs.Prelude.{◌≡◌, ◌≤◌, ◌<◌, ◌+◌, ℕ, List, [], ◌∷◌, ◌++◌, length, map, filter, Option, Some}
+use Rattle.std.specs.Prelude.{◌≡◌, ◌≤◌, ℕ, List, [], ◌∷◌, ◌++◌, length, map, filter, Option, Some}
 use Rattle.std.specs.List.{AllByRecursion, flat_map}
 use Rattle.std.specs.declared.cmp.Ordering.TheVariants.{Less}
 use Rattle.page_image.specs.Image.{Image}
 use Rattle.page_view.specs.Keys.{key_in, key_cmp}
 use Rattle.bplus_tree.specs.declared.want.Want.TheVariants.{Need, Leaf}
-use Rattle.bplus_tree.specs.Tree.{Tree, Way, leaves_of}
+use Rattle.bplus_tree.specs.Tree.{Way, leaves_of}
 use Rattle.bplus_tree.specs.Walk.{start, Runs, in_range}
 
 -- the items of these leaves, in order

@@ -1,3 +1,6 @@
+ghost use Rattle.std.specs.Prelude.{◌≡◌, IfSome};
+ghost use Rattle.bplus_tree.specs.Walk.{IsToRead};
+
 use crate::*;
 use page_image::{Kind, Page};
 use rm_base::{Bytes, Items, KeyRange, Lsn, PageId, WantOfMemory};
@@ -9,9 +12,10 @@ const fn leaf(key: u8) -> [u8; 17] {
     [1, key, 0, 0, 0, 0, 0, 0, 0, 0, 1, 0, 0, 0, 0, 0, 0]
 }
 
-const ONE: &[u8] = &leaf(1);
+/// Leaf items of the keys 1 and 2.
+const ONE: &[u8] = b"\x01\x01\0\0\0\0\0\0\0\0\x01\0\0\0\0\0\0";
 
-const TWO: &[u8] = &leaf(2);
+const TWO: &[u8] = b"\x01\x02\0\0\0\0\0\0\0\0\x01\0\0\0\0\0\0";
 
 /// The page of that number, kind and next page, with the items. None where they do not fit.
 fn page_with(
@@ -45,7 +49,9 @@ fn page_with(
 }
 
 /// The page that is wanted, where it can be read.
-fn page_of(pages: &Items<Page>, wanted: PageId) -> Option<&Page> {
+fn page_of(pages: &Items<Page>, wanted: PageId) -> Option<&Page>
+    ensures { IfSome result (λ page. (page.now.page ≡ wanted) × IsToRead page.now) }
+{
     for page in pages.as_slice() {
         if page.page() == wanted && can_be_read(page) {
             return Some(page);
@@ -99,13 +105,11 @@ fn leaves_of(
     let mut walk = LeafWalk::new(PageId::new(30).unwrap(), range);
     let mut leaves = Items::new(alloc);
     for _ in 0..9 {
-        let wanted = match walk.next() {
-            Want::Finished => return Ok(Some(leaves)),
-            Want::Need(wanted) => wanted,
-            Want::Leaf(wanted) => {
-                leaves.push(wanted.number())?;
-                wanted
-            }
+        if let Want::Leaf(leaf) = walk.next() {
+            leaves.push(leaf.number())?;
+        }
+        let Some(wanted) = walk.next().page() else {
+            return Ok(Some(leaves));
         };
         let Some(page) = page_of(pages, wanted) else {
             return Ok(None);
@@ -150,14 +154,10 @@ fn a_descent_ends_at_the_leaf_of_its_key(rt: HostRuntime) -> Result<(), Fail> {
     ] {
         let key = end_of(rt.alloc(), Some(key))?.ok_or("no key")?;
         let mut descent = Descent::new(PageId::new(30).unwrap(), key);
-        for wanted in [30, leaf, leaf] {
-            let page = match descent.next() {
-                Want::Need(page) | Want::Leaf(page) => page_of(&pages, page).ok_or(
-                    "a page is missing",
-                )?,
-                Want::Finished => return Err("too early".into()),
-            };
-            assert_eq!(rt; page.page().number(), wanted);
+        for number in [30, leaf, leaf] {
+            let wanted = descent.next().page().ok_or("too early")?;
+            assert_eq!(rt; wanted.number(), number);
+            let page = page_of(&pages, wanted).ok_or("a page is missing")?;
             descent.give(page);
         }
         assert_eq!(rt; descent.next(), Want::Finished);
@@ -165,21 +165,24 @@ fn a_descent_ends_at_the_leaf_of_its_key(rt: HostRuntime) -> Result<(), Fail> {
     Ok(())
 }
 
+/// Whether a page of the kind with the items can be read. None where they do not fit.
+fn reads(alloc: Global, kind: Kind, items: &[&[u8]]) -> Result<Option<bool>, WantOfMemory> {
+    let page = page_with(alloc, 10, kind, 0, items)?;
+    Ok(page.map(|page| can_be_read(&page)))
+}
+
 #[test]
 fn pages_with_other_items_cannot_be_read(rt: HostRuntime) -> Result<(), Fail> {
     let alloc = rt.alloc();
-    let cases: [(Kind, &[&[u8]], bool); 7] = [
-        (Kind::Leaf, &[], true),
-        (Kind::Leaf, &[ONE, TWO], true),
-        (Kind::Leaf, &[TWO, ONE], false),
-        (Kind::Leaf, &[b"\x01a"], false),
-        (Kind::Inner, &[], false),
-        (Kind::Inner, &[b"\x01a\0\0\0\x0a"], false),
-        (Kind::Undo, &[ONE], false),
-    ];
-    for (kind, items, readable) in cases {
-        let page = page_with(alloc, 10, kind, 0, items)?.ok_or("no page")?;
-        assert_eq!(rt; can_be_read(&page), readable, "{kind:?} {items:?}");
-    }
+    assert_eq!(rt; reads(alloc, Kind::Leaf, &[])?, Some(true));
+    assert_eq!(rt; reads(alloc, Kind::Leaf, &[ONE, TWO])?, Some(true));
+    assert_eq!(rt; reads(alloc, Kind::Leaf, &[TWO, ONE])?, Some(false));
+    assert_eq!(rt; reads(alloc, Kind::Leaf, &[b"\x01a"])?, Some(false));
+    assert_eq!(rt; reads(alloc, Kind::Inner, &[])?, Some(false));
+    assert_eq!(rt;
+        reads(alloc, Kind::Inner, &[b"\x01a\0\0\0\x0a"])?,
+        Some(false)
+    );
+    assert_eq!(rt; reads(alloc, Kind::Undo, &[ONE])?, Some(false));
     Ok(())
 }

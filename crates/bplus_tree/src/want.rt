@@ -1,3 +1,6 @@
+ghost use Rattle.std.specs.Prelude.{◌≡◌};
+ghost use Rattle.bplus_tree.specs.Walk as walk;
+
 use rm_base::PageId;
 
 /// The level of the highest page that a tree can have; leaves are at level 0.
@@ -14,4 +17,16 @@ pub enum Want {
     /// A leaf of the result. Its items are to be taken before the search is told of it.
     Leaf(PageId),
     Finished,
+}
+
+impl Want {
+    /// The page that is wanted. None where the search is finished.
+    pub fn page(&self) -> Option<PageId>
+        ensures { result ≡ walk.wanted self.now }
+    {
+        match self {
+            Want::Need(page) | Want::Leaf(page) => Some(*page),
+            Want::Finished => None,
+        }
+    }
 }

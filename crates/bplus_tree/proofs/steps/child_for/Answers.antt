@@ -1,4 +1,4 @@
-use Rattle.std.proofs.Common.{rules, ◌≡◌}
+use Rattle.std.proofs.Common.{rules}
 use Rattle.bplus_tree.proofs.Entries.{entry_lent}
 use Rattle.bplus_tree.proofs.steps.child_for.Goals as goal
 
