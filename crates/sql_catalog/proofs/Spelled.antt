@@ -1,18 +1,16 @@
 -- The bytes of columns and tables are theirs alone.
-use Rattle.std.proofs.Common.{◌≡◌, ◌≢◌, ◌<◌, ◌≤◌, ◌+◌, ◌-◌, ℕ, zero, suc, List, [], ◌∷◌, ◌++◌, length, take, drop, slice_index, Option, Some, None, refl, sym, ◌∙◌, ap, subst, arith}
-use Rattle.std.specs.List.{AllByRecursion, flat_map}
-use Rattle.std.proofs.Math.Seq.{take-append_seam, drop-append_seam}
+use Rattle.std.proofs.Common.{◌≡◌, ◌<◌, ◌≤◌, ◌+◌, ◌-◌, ℕ, zero, suc, List, [], ◌∷◌, ◌++◌, length, take, drop, slice_index, refl, sym, ◌∙◌, ap, subst, arith}
+use Rattle.std.specs.List.{AllByRecursion}
 use Rattle.std.proofs.lemmas.List.{take-append-drop}
 use Rattle.std.proofs.Math.Seq.{drop-cons}
 use Rattle.rm_base.specs.Fields.{field, number, AreBytes}
 use Rattle.rm_base.proofs.FieldLaws.{length-field, number-field, number-lt, field-number}
-use Rattle.sql_values.specs.declared.values.Value.{Value}
 use Rattle.sql_values.specs.declared.values.Value.TheVariants.{Text}
 use Rattle.sql_values.specs.declared.values.Sort.{Sort}
 use Rattle.sql_values.specs.declared.values.Sort.TheVariants as sort
 use Rattle.sql_values.specs.declared.schemas.Column.{Column}
 use Rattle.sql_values.specs.declared.schemas.Schema.{Schema}
-use Rattle.sql_catalog.specs.Catalog.{sort_number, column_bytes, columns_bytes, schema_bytes, catalog_row, IsNamed, AreBounded, OneTable}
+use Rattle.sql_catalog.specs.Catalog.{sort_number, column_bytes, columns_bytes, schema_bytes, IsNamed, AreBounded, OneTable}
 
 one_sort : (a b : Sort) → sort_number a ≡ sort_number b → a ≡ b
 one_sort sort.Int sort.Int e = refl

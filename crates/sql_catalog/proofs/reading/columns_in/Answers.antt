@@ -1,4 +1,4 @@
-use Rattle.std.proofs.Common.{rules, ◌≡◌, ◌<◌, length, take, drop, ◌-◌, sym, ◌∙◌, subst, arith}
+use Rattle.std.proofs.Common.{◌<◌, length, take, drop, ◌-◌, ◌∙◌, subst, arith}
 use Rattle.sql_catalog.specs.Catalog.{IsColumnOrNone}
 use Rattle.sql_catalog.proofs.Spelled.{one_more, none_left, rest_from}
 use Rattle.sql_catalog.proofs.reading.columns_in.Goals as goal
