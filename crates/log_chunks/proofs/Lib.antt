@@ -1,0 +1,4 @@
+pub mod HistoryLaws
+pub mod ReadLaws
+pub mod ChunkLaws
+pub mod StoreLaws

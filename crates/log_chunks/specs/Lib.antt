@@ -1,0 +1,3 @@
+pub mod Chunked
+pub mod Log
+pub mod History
