@@ -1,4 +1,4 @@
-ghost use Rattle.std.specs.Prelude.{◌≡◌, ◌≤◌, ◌*◌, ◌==◌, ℕ, true, List, ◌++◌, [], length, take, drop, find, IfOk, IfSome, OnOk, OnErr, MatchOption};
+ghost use Rattle.std.specs.Prelude.{◌≡◌, ◌≤◌, ◌*◌, ◌==◌, ℕ, true, false, List, ◌++◌, [], length, take, drop, find, IsOk, IfOk, OnOk, OnErr, MatchOption};
 ghost use Rattle.std.specs.Option.{option_copied};
 ghost use Rattle.redo_record.specs.declared.redo.Group.{Group};
 ghost use Rattle.redo_record.specs.Spelling.{log_bytes, Spells};
@@ -64,6 +64,9 @@ impl LogStore {
         ensures answer { IfOk result (λ answer. answer ≡ answer_to self.old epoch offset (length bytes.now)) }
         ensures log { IfOk result (Appends self.old bytes.now self.new) }
         ensures err { OnErr result (self.new ≡ self.old) }
+
+        // A refusal takes no memory.
+        ensures free { is_kept (answer_to self.old epoch offset (length bytes.now)) ≡ false → IsOk result }
 
         // It is the append of the laws over any list of calls.
         ensures step { OnOk result ((groups : List Group) → Spells bytes.now groups
