@@ -1,0 +1,4 @@
+pub mod EntryLaws
+pub mod TakenLaws
+pub mod MoveLaws
+pub mod ChunkLaws
