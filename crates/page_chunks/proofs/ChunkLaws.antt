@@ -7,10 +7,10 @@ use Rattle.std.proofs.lemmas.List.{length-set, get_or-set_same, get_or-set_other
 use Rattle.page_image.specs.Image.{Image}
 use Rattle.redo_record.specs.declared.redo.Record.{Record}
 use Rattle.redo_record.specs.declared.redo.Group.{Group}
-use Rattle.redo_record.specs.Effect.{page_of, step, RecordsApply}
+use Rattle.redo_record.specs.Effect.{page_of, step, past, RecordsApply}
 use Rattle.page_chunks.specs.declared.entries.Entry.{Entry}
 use Rattle.page_chunks.specs.Entries.{empty, base_of, image_of, taken_all, Stands, entry_at, EachApplies}
-use Rattle.page_chunks.specs.Chunk.{Chunk, first_page, InChunk, kept_of, IsChunk, CanShip, IsShipped}
+use Rattle.page_chunks.specs.Chunk.{Chunk, first_page, InChunk, kept_of, waiting, IsChunk, CanShip, IsShipped}
 use Rattle.page_chunks.proofs.EntryLaws.{TakenAll, with_records, stands_later, taken_records, folded-stands, not_here}
 use Rattle.page_chunks.proofs.TakenLaws.{length-taken_all, entry-taken_all}
 
@@ -113,6 +113,14 @@ folded-chunk old p place e is h at s =
                 subst (λ (x : Entry). Stands (first_page old + i) old.applied x) (sym (get_or-set_other old.entries place i e empty other)) (is.each i low)
           ];
     }
+
+-- the records that wait for other pages stay
+pub others-wait : (old : Chunk) (p q place : ℕ) (e : Entry) → InChunk old p → InChunk old q → q ≢ p → place ≡ p - first_page old → waiting (after_fold old place e) q ≡ waiting old q
+others-wait old p q place e h i differ at =
+    let from = h.from in
+    let start = i.from in
+    let apart : (q - first_page old) ≢ place = λ same. differ (omega arith) in
+    ap (λ (x : Entry). past (base_of q x).lsn x.pending) (get_or-set_other old.entries place (q - first_page old) e empty apart)
 
 -- ---- whether records wait
 

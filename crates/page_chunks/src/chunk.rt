@@ -50,6 +50,7 @@ impl PageChunk {
         requires { c < 128 }
         ensures number { IfOk result (λ chunk. chunk.number ≡ c) }
         ensures got { IfOk result (λ chunk. HasGot chunk []) }
+        ensures none { IfOk result (λ chunk. (p : ℕ) → InChunk chunk p → waiting chunk p ≡ []) }
     {
         let entries = blank_entries(alloc, CHUNK_PAGES)?;
         Ok(PageChunk {
@@ -139,6 +140,7 @@ impl PageChunk {
         requires { InChunk self.old p }
         ensures ok { OnOk result (AnswersSame self.old self.new) }
         ensures none { OnOk result (waiting self.new p ≡ []) }
+        ensures others { (q : ℕ) → InChunk self.old q → q ≢ p → waiting self.new q ≡ waiting self.old q }
         ensures err { OnErr result (self.new ≡ self.old) }
         ensures got { OnOk result ((groups : List Group) → HasGot self.old groups → HasGot self.new groups) }
     {
