@@ -1,0 +1,17 @@
+pub mod Classes
+pub mod CursorLaws
+pub mod Peeking
+pub mod Ranks
+pub mod Turns
+pub mod Exact
+pub mod SymbolFacts
+pub mod ExprReads
+pub mod ExprComplete
+pub mod ExprRoom
+pub mod Limits
+pub mod Follows
+pub mod Places
+pub mod Stable
+pub mod Commas
+pub mod ExprFollows
+pub mod StmtFollows

@@ -1,0 +1,10 @@
+pub mod Conditions
+pub mod Cursor
+pub mod Expressions
+pub mod Good
+pub mod Grammar
+pub mod Input
+pub mod ReadExpr
+pub mod ReadStmt
+pub mod Rules
+pub mod Symbols

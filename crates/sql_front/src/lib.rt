@@ -1,0 +1,17 @@
+//! Statements of SQL: their types, their parser and their printed form.
+#![tactic(auto)]
+
+mod changes;
+mod commands;
+mod definitions;
+mod input;
+mod levels;
+mod lists;
+mod queries;
+mod reading;
+mod stopping;
+
+pub use sql_statements::{
+    Agg, Aggs, Expr, ExprRows, Exprs, Join, Op, OrderKey, Orders, Select, Selected, SetItem, Sets,
+    Stmt,
+};
