@@ -15,3 +15,7 @@ pub mod Stable
 pub mod Commas
 pub mod ExprFollows
 pub mod StmtFollows
+pub mod SelectFollows
+pub mod Statements
+pub mod Texts
+pub mod Verdicts

@@ -7,7 +7,7 @@ use Rattle.sql_front.specs.Symbols.{Input}
 use Rattle.sql_front.proofs.Exact.{SameHead, Runs, gives, gives_up, runs_to, Good, takes, stops}
 
 -- an outcome is one
-both_ok : {X : Type 0} (o : Outcome X) (x y : X) (q r : Input) → o ≡ Ok (x, q) → o ≡ Ok (y, r) → (x ≡ y) × (q ≡ r)
+pub both_ok : {X : Type 0} (o : Outcome X) (x y : X) (q r : Input) → o ≡ Ok (x, q) → o ≡ Ok (y, r) → (x ≡ y) × (q ≡ r)
 both_ok {X} o x y q r e g = (ap (λ (p : X × Input). p.0) same, ap (λ (p : X × Input). p.1) same) where
   inside : {a b : X × Input} → ◌≡◌ {A = Outcome X} (Ok a) (Ok b) → a ≡ b
   inside h = cc

@@ -7,4 +7,5 @@ pub mod Input
 pub mod ReadExpr
 pub mod ReadStmt
 pub mod Rules
+pub mod Sentences
 pub mod Symbols

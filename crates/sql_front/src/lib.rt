@@ -5,12 +5,16 @@ mod changes;
 mod commands;
 mod definitions;
 mod input;
+mod laws;
 mod levels;
 mod lists;
+mod parsing;
 mod queries;
 mod reading;
 mod stopping;
 
+pub use laws::one_meaning;
+pub use parsing::{LONGEST_TEXT, Syntax, parse};
 pub use sql_statements::{
     Agg, Aggs, Expr, ExprRows, Exprs, Join, Op, OrderKey, Orders, Select, Selected, SetItem, Sets,
     Stmt,
