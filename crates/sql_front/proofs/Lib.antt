@@ -19,3 +19,4 @@ pub mod SelectFollows
 pub mod Statements
 pub mod Texts
 pub mod Verdicts
+pub mod Writing

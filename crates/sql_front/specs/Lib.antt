@@ -4,6 +4,7 @@ pub mod Expressions
 pub mod Good
 pub mod Grammar
 pub mod Input
+pub mod Printed
 pub mod ReadExpr
 pub mod ReadStmt
 pub mod Rules

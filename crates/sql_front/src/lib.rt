@@ -9,12 +9,17 @@ mod laws;
 mod levels;
 mod lists;
 mod parsing;
+mod printing;
 mod queries;
 mod reading;
+mod rendering;
+mod showing;
+mod spelling;
 mod stopping;
 
 pub use laws::one_meaning;
 pub use parsing::{LONGEST_TEXT, Syntax, parse};
+pub use rendering::print;
 pub use sql_statements::{
     Agg, Aggs, Expr, ExprRows, Exprs, Join, Op, OrderKey, Orders, Select, Selected, SetItem, Sets,
     Stmt,
