@@ -1,10 +1,8 @@
 -- Classes are told apart by their numbers.
-use Rattle.std.proofs.Common.{◌≡◌, ◌↔◌, ℕ, Bool, true, false, List, [], ◌∷◌, Option, Some, None, IsTrue, refl, sym, ◌∙◌, ap, eq-eqb}
+use Rattle.std.proofs.Common.{◌≡◌, ◌↔◌, ℕ, Bool, true, false, List, [], ◌∷◌, Some, IsTrue, refl, sym, ◌∙◌, ap, eq-eqb}
 use Rattle.std.specs.List.{slice_get}
 use Rattle.std.proofs.lemmas.Bool.{eqb-true}
-use Rattle.sql_words.specs.declared.reserved.Word.{Word}
 use Rattle.sql_words.specs.declared.reserved.Word.TheVariants as w
-use Rattle.sql_words.specs.declared.signs.Sign.{Sign}
 use Rattle.sql_words.specs.declared.signs.Sign.TheVariants as s
 use Rattle.sql_words.specs.declared.tokens.Class.{Class}
 use Rattle.sql_words.specs.declared.tokens.Class.TheVariants as c

@@ -1,12 +1,12 @@
 -- Lists of items that are read by their rules.
-use Rattle.std.proofs.Common.{◌≡◌, ℕ, zero, suc, ◌+◌, ◌-◌, ◌<◌, ◌≤◌, ◌⊎◌, inl, inr, Bool, true, false, cond, List, [], ◌∷◌, ◌++◌, length, Result, Ok, Err, refl, sym, ◌∙◌, ap, subst, arith, append_assoc, length-append}
+use Rattle.std.proofs.Common.{◌≡◌, ℕ, zero, suc, ◌-◌, ◌≤◌, Bool, true, false, cond, List, [], ◌∷◌, ◌++◌, length, Ok, Err, refl, sym, ◌∙◌, ap, subst, arith, append_assoc, length-append}
 use Rattle.sql_words.specs.declared.signs.Sign.TheVariants as s
 use Rattle.sql_words.specs.declared.tokens.Class.TheVariants as c
-use Rattle.sql_front.specs.Input.{Outcome, Reader, and_then, pure, eat, after, further, listed}
-use Rattle.sql_front.specs.Rules.{Rule, nothing, the, Both, ◌or◌, Further, none, another, a_list}
-use Rattle.sql_front.specs.Symbols.{Symbol, sign, Input, class_of, sees, behind, same_class}
-use Rattle.sql_front.proofs.Exact.{SameHead, Runs, gives, gives_up, runs_to, Good, takes, stops, Begins, weaker, same_reader, good_pure, good_both, good_eat}
-use Rattle.sql_front.proofs.ExprRoom.{Shrinks, good_shrinks}
+use Rattle.sql_front.specs.Input.{Outcome, Reader, and_then, pure, after, further, listed}
+use Rattle.sql_front.specs.Rules.{Rule, nothing, Both, Further, none, another, a_list}
+use Rattle.sql_front.specs.Symbols.{Symbol, sign, Input, class_of, sees, behind}
+use Rattle.sql_front.proofs.Exact.{Good, weaker, good_pure, good_both, good_eat}
+use Rattle.sql_front.proofs.ExprRoom.{good_shrinks}
 use Rattle.sql_front.proofs.SymbolFacts.{sign_is}
 use Rattle.sql_front.proofs.Stable.{good_bounded}
 use Rattle.sql_front.proofs.Follows.{Judged, reads, falls, Follows, sees_it, follows_both}

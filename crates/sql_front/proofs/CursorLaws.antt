@@ -1,5 +1,5 @@
 -- What a cursor over tokens shows.
-use Rattle.std.proofs.Common.{◌≡◌, ℕ, zero, suc, ◌+◌, ◌-◌, ◌<◌, ◌≤◌, Bool, false, List, [], ◌∷◌, map, length, take, drop, get_or, refl, sym, ◌∙◌, ap, subst, arith, length-take, length-drop}
+use Rattle.std.proofs.Common.{◌≡◌, ℕ, zero, suc, ◌+◌, ◌-◌, ◌<◌, ◌≤◌, false, List, [], ◌∷◌, map, length, take, drop, get_or, refl, sym, ◌∙◌, ap, subst, arith, length-take, length-drop}
 use Rattle.std.proofs.Math.Seq.{drop-cons, take-length}
 use Rattle.std.proofs.lemmas.List.{length-map, get_or-take, drop-drop, drop-map, drop-take, take-take, take_all}
 use Rattle.std.specs.List.{take-map}
@@ -7,7 +7,7 @@ use Rattle.sql_words.specs.declared.tokens.Class.{Class}
 use Rattle.sql_words.specs.Lexed.{Lexed}
 use Rattle.sql_front.specs.Good.{IsGood, AreGood}
 use Rattle.sql_front.specs.Cursor.{symbols_left}
-use Rattle.sql_front.specs.Symbols.{Symbol, Input, symbol_of, sees, same_class, behind}
+use Rattle.sql_front.specs.Symbols.{Symbol, symbol_of, sees, same_class, behind}
 use Rattle.sql_front.proofs.Classes.{class_of_symbol}
 
 pub length-symbols_left : (ts : List Lexed) (at end : ℕ) → end ≤ length ts → length (symbols_left ts at end) ≡ end - at

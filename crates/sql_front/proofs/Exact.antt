@@ -1,8 +1,7 @@
 -- What it means that a reader follows a rule, and how readers are put together.
-use Rattle.std.proofs.Common.{◌≡◌, ℕ, zero, suc, ◌+◌, ◌-◌, ◌<◌, ◌≤◌, ◌⊎◌, inl, inr, Bool, true, false, cond, List, [], ◌∷◌, ◌++◌, length, Option, Some, None, Result, Ok, Err, refl, sym, ◌∙◌, ap, subst, arith, append_assoc, append-nil, length-append}
+use Rattle.std.proofs.Common.{◌≡◌, ℕ, suc, ◌-◌, Bool, true, false, cond, [], ◌∷◌, ◌++◌, length, Ok, Err, refl, sym, ◌∙◌, ap, subst, arith, append_assoc, length-append}
 use Rattle.sql_words.specs.declared.tokens.Class.{Class}
-use Rattle.sql_front.specs.Input.{Outcome, Reader, and_then, pure, refuse, expect_if, eat, after}
-use Rattle.sql_front.specs.Input as reader
+use Rattle.sql_front.specs.Input.{Outcome, Reader, and_then, pure, expect_if, eat, after}
 use Rattle.sql_front.specs.Rules.{Rule, nothing, the_if, Both}
 use Rattle.sql_front.specs.Symbols.{Symbol, Input, class_of, same_class, sees, behind}
 use Rattle.sql_front.proofs.Classes.{same_class-true}

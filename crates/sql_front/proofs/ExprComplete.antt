@@ -1,7 +1,7 @@
 -- What the grammar says is an expression is read as one.
-use Rattle.std.proofs.Common.{◌≡◌, ℕ, zero, suc, ◌+◌, ◌-◌, ◌<◌, ◌≤◌, ◌^◌, Bool, true, false, cond, List, [], ◌∷◌, ◌++◌, length, Option, Some, None, Result, Ok, Err, refl, sym, ◌∙◌, ap, subst, arith, append_assoc, length-append, lit<}
+use Rattle.std.proofs.Common.{◌≡◌, ℕ, zero, suc, ◌+◌, ◌<◌, ◌≤◌, ◌^◌, true, false, cond, List, [], ◌∷◌, ◌++◌, length, Option, Some, None, Ok, Err, refl, ◌∙◌, ap, arith, append_assoc, length-append, lit<}
 use Rattle.std.proofs.lemmas.Bool.{lt-ltb}
-use Rattle.std.specs.Prelude.{pos, neg_ℤ, ℤ, nat_lt}
+use Rattle.std.specs.Prelude.{pos, neg_ℤ, ℤ}
 use Rattle.sql_values.specs.declared.values.Value.TheVariants as value
 use Rattle.sql_words.specs.declared.reserved.Word.TheVariants as w
 use Rattle.sql_words.specs.declared.signs.Sign.TheVariants as s
@@ -13,7 +13,7 @@ use Rattle.sql_front.specs.declared.levels.Level.{Level}
 use Rattle.sql_front.specs.declared.levels.Level.TheVariants as level
 use Rattle.sql_front.specs.Expressions.{Joins, or, and, plus, minus, times, Compares, eq, ne, lt, le, gt, ge, Part, row, negation, test, unit, under, BeginsNoNumber, Means, operand, joined, negated, tested, summed, compared, is_null, is_not_null, a_number, a_negative, a_text, a_null, a_column, of_table, group}
 use Rattle.sql_front.specs.Expressions as e
-use Rattle.sql_front.specs.Input.{Outcome, Reader, and_then, pure, any_name, named, small_number, negative_number, numbered, text_value, texted, expect_if, eat, after}
+use Rattle.sql_front.specs.Input.{Reader, and_then, pure, any_name, named, small_number, negative_number, numbered, text_value, texted, expect_if, after}
 use Rattle.sql_front.specs.ReadExpr as r
 use Rattle.sql_front.specs.Symbols.{Symbol, word, sign, name, number, text, Input, class_of, same_class, sees, behind}
 use Rattle.sql_front.proofs.Classes.{same_class-false}

@@ -1,20 +1,19 @@
 -- An expression is read by its rule, up to 256 symbols.
-use Rattle.std.proofs.Common.{◌≡◌, ℕ, zero, suc, ◌+◌, ◌-◌, ◌<◌, ◌≤◌, ◌⊎◌, inl, inr, ◌&&◌, ◌||◌, Bool, true, false, cond, List, [], ◌∷◌, ◌++◌, length, take, drop, Option, Some, None, Result, Ok, Err, refl, sym, ◌∙◌, ap, subst, arith, append_assoc, append-nil, length-append, take-append-drop, length-take, length-drop}
-use Rattle.std.proofs.Math.Seq.{take-append-add, drop-append-add, take-append_seam}
+use Rattle.std.proofs.Common.{◌≡◌, ℕ, zero, suc, ◌+◌, ◌-◌, ◌<◌, ◌≤◌, ◌⊎◌, inl, inr, ◌&&◌, ◌||◌, Bool, true, false, cond, List, [], ◌∷◌, ◌++◌, length, take, drop, Option, Some, None, Ok, Err, refl, sym, ◌∙◌, ap, subst, arith, append_assoc, append-nil, length-append, take-append-drop, length-take, length-drop}
+use Rattle.std.proofs.Math.Seq.{take-append-add, drop-append-add}
 use Rattle.std.proofs.lemmas.Bool.{cases_lt}
 use Rattle.std.specs.Prelude.{is_some}
 use Rattle.sql_words.specs.declared.reserved.Word.TheVariants as w
 use Rattle.sql_words.specs.declared.signs.Sign.TheVariants as s
-use Rattle.sql_words.specs.declared.tokens.Class.TheVariants as c
 use Rattle.sql_statements.specs.declared.expressions.Expr.{Expr}
 use Rattle.sql_front.specs.declared.levels.Level.TheVariants as level
 use Rattle.sql_front.specs.Expressions.{Part, row, Means, operand, joined, negated, tested, summed, compared, is_null, is_not_null, a_number, a_negative, a_text, a_null, a_column, of_table, group, an_expression}
 use Rattle.sql_front.specs.Expressions as e
-use Rattle.sql_front.specs.Input.{Outcome, Reader}
+use Rattle.sql_front.specs.Input.{Outcome}
 use Rattle.sql_front.specs.ReadExpr as r
 use Rattle.sql_front.specs.ReadExpr.{goes_on, is_end, limited, expression}
-use Rattle.sql_front.specs.Symbols.{Symbol, word, sign, name, number, text, Input, class_of, same_class, sees}
-use Rattle.sql_front.proofs.Exact.{SameHead, SameHead-refl, Runs, gives, gives_up, runs_to, Good, takes, stops}
+use Rattle.sql_front.specs.Symbols.{Symbol, word, sign, name, number, text, Input, sees}
+use Rattle.sql_front.proofs.Exact.{SameHead, Good, takes, stops}
 use Rattle.sql_front.proofs.ExprReads.{part, good_whole}
 use Rattle.sql_front.proofs.ExprComplete.{EndsOr, complete, whole-row, not_empty}
 use Rattle.sql_front.proofs.ExprRoom.{same_whole}

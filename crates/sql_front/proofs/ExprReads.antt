@@ -1,12 +1,11 @@
 -- The readers of expressions follow the grammar of expressions.
-use Rattle.std.proofs.Common.{◌≡◌, ℕ, zero, suc, ◌+◌, ◌-◌, ◌<◌, ◌≤◌, ◌⊎◌, ◌^◌, inl, inr, Bool, true, false, cond, List, [], ◌∷◌, ◌++◌, length, Option, Some, None, Result, Ok, Err, refl, sym, ◌∙◌, ap, subst, arith, append_assoc, append-nil, length-append, lit<}
-use Rattle.std.specs.Prelude.{pos, neg_ℤ, ℤ}
+use Rattle.std.proofs.Common.{◌≡◌, ℕ, zero, suc, ◌-◌, Bool, true, false, cond, List, [], ◌∷◌, ◌++◌, length, Option, Some, None, Ok, refl, sym, ◌∙◌, ap, subst, append_assoc, append-nil}
+use Rattle.std.specs.Prelude.{pos, neg_ℤ}
 use Rattle.sql_values.specs.declared.values.Value.TheVariants as value
 use Rattle.sql_words.specs.declared.reserved.Word.{Word}
 use Rattle.sql_words.specs.declared.reserved.Word.TheVariants as w
 use Rattle.sql_words.specs.declared.signs.Sign.{Sign}
 use Rattle.sql_words.specs.declared.signs.Sign.TheVariants as s
-use Rattle.sql_words.specs.declared.tokens.Class.{Class}
 use Rattle.sql_words.specs.declared.tokens.Class.TheVariants as c
 use Rattle.sql_statements.specs.declared.expressions.Expr.{Expr}
 use Rattle.sql_statements.specs.declared.expressions.Expr.TheVariants.{Lit, Col, Neg, Not, IsNull, Two}
@@ -16,12 +15,12 @@ use Rattle.sql_front.specs.declared.levels.Level.{Level}
 use Rattle.sql_front.specs.declared.levels.Level.TheVariants as level
 use Rattle.sql_front.specs.Expressions.{Joins, or, and, plus, minus, times, Compares, eq, ne, lt, le, gt, ge, Part, row, negation, test, unit, under, BeginsNoNumber, Means, operand, joined, negated, tested, summed, compared, is_null, is_not_null, a_number, a_negative, a_column, of_table, group}
 use Rattle.sql_front.specs.Expressions as e
-use Rattle.sql_front.specs.Input.{Outcome, Reader, and_then, pure, refuse, any_name, small_number, negative_number, text_value, expect_if, eat, after}
+use Rattle.sql_front.specs.Input.{Outcome, Reader, and_then, pure, any_name, small_number, negative_number, text_value, expect_if, after}
 use Rattle.sql_front.specs.ReadExpr as r
 use Rattle.sql_front.specs.Rules.{Rule, nothing, the_if, a_name, a_small_number, a_negative_number, a_text, Both}
 use Rattle.sql_front.specs.Symbols.{Symbol, word, sign, name, number, text, Input, class_of, same_class, sees, behind}
-use Rattle.sql_front.proofs.Exact.{SameHead, SameHead-sym, SameHead-append, sees_same, sees-true, Runs, gives, gives_up, Good, takes, stops, Begins, weaker, same_reader, good_pure, runs_both, runs_first, good_both, begins_both, good_by_class, either_runs, good_choice, good_eat, good_expect_if, at_end, refusing, taking}
-use Rattle.sql_front.proofs.SymbolFacts.{word_is, sign_is, number_is, good_any_name, good_small_number, good_negative_number, good_text}
+use Rattle.sql_front.proofs.Exact.{SameHead, SameHead-sym, SameHead-append, sees_same, sees-true, Runs, gives, gives_up, Good, takes, stops, weaker, good_pure, runs_both, runs_first, good_both, good_by_class, either_runs, good_choice, good_eat, good_expect_if}
+use Rattle.sql_front.proofs.SymbolFacts.{word_is, sign_is, good_any_name, good_small_number, good_negative_number, good_text}
 
 -- the rule of a part of an expression
 abbrev pub part : Part → Rule Expr

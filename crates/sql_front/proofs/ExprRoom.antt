@@ -1,5 +1,5 @@
 -- More room than symbols makes no difference to what is read.
-use Rattle.std.proofs.Common.{◌≡◌, ℕ, zero, suc, ◌+◌, ◌-◌, ◌<◌, ◌≤◌, Bool, true, false, cond, List, [], ◌∷◌, ◌++◌, length, Option, Some, None, Result, Ok, Err, refl, sym, ◌∙◌, ap, subst, arith, length-append}
+use Rattle.std.proofs.Common.{◌≡◌, ℕ, zero, suc, ◌≤◌, Bool, true, false, cond, [], ◌∷◌, length, Option, Some, None, Result, Ok, Err, refl, sym, ◌∙◌, ap, arith, length-append}
 use Rattle.sql_values.specs.declared.values.Value.TheVariants as value
 use Rattle.sql_words.specs.declared.reserved.Word.TheVariants as w
 use Rattle.sql_words.specs.declared.signs.Sign.TheVariants as s
@@ -10,13 +10,13 @@ use Rattle.sql_statements.specs.declared.expressions.Expr.TheVariants.{Lit, Neg,
 use Rattle.sql_statements.specs.declared.expressions.Op.{Op}
 use Rattle.sql_front.specs.declared.levels.Level.{Level}
 use Rattle.sql_front.specs.declared.levels.Level.TheVariants as level
-use Rattle.sql_front.specs.Expressions.{row, unit, negation, under}
+use Rattle.sql_front.specs.Expressions.{row, unit, negation}
 use Rattle.sql_front.specs.Input.{Reader, and_then, pure, any_name, named, negative_number, expect_if}
 use Rattle.sql_front.specs.ReadExpr as r
 use Rattle.sql_front.specs.Rules.{Rule}
 use Rattle.sql_front.specs.Symbols.{Input, sees, behind}
-use Rattle.sql_front.proofs.Exact.{Runs, gives, gives_up, runs_to, Good, takes, stops, sees-true}
-use Rattle.sql_front.proofs.ExprReads.{part, operator-joins, good_chain, good_unit_of, good_unit, good_whole, good_negation, good_negation_of, good_tests_of, good_test_of}
+use Rattle.sql_front.proofs.Exact.{runs_to, Good, takes, stops}
+use Rattle.sql_front.proofs.ExprReads.{part, good_chain, good_unit_of, good_unit, good_whole, good_negation, good_negation_of, good_tests_of}
 
 -- a reader leaves no more than there was
 abbrev pub Shrinks : {X : Type 0} → Reader X → Type 0

@@ -1,11 +1,11 @@
 -- What it means that a reader does all that a rule says, and how such readers are put together.
-use Rattle.std.proofs.Common.{◌≡◌, ℕ, zero, suc, ◌+◌, ◌-◌, ◌<◌, ◌≤◌, ◌⊎◌, inl, inr, Bool, true, false, cond, List, [], ◌∷◌, ◌++◌, length, Option, Some, None, Result, Ok, Err, refl, sym, ◌∙◌, ap, subst, arith, append_assoc, append-nil, length-append, lit<}
+use Rattle.std.proofs.Common.{◌≡◌, ℕ, zero, suc, ◌-◌, ◌<◌, ◌≤◌, ◌⊎◌, inl, inr, Bool, true, false, cond, List, [], ◌∷◌, ◌++◌, length, Ok, Err, refl, sym, ◌∙◌, ap, subst, arith, append_assoc, length-append}
 use Rattle.sql_words.specs.declared.tokens.Class.{Class}
-use Rattle.sql_front.specs.Input.{Outcome, Reader, and_then, pure, expect_if, eat, after, any_name, name_if, named, small_number, numbered}
-use Rattle.sql_front.specs.Rules.{Rule, nothing, the_if, the, a_name, a_name_if, a_small_number, Both, ◌or◌}
-use Rattle.sql_front.specs.Symbols.{Symbol, word, sign, name, number, text, Input, class_of, same_class, sees, behind}
+use Rattle.sql_front.specs.Input.{Outcome, Reader, and_then, pure, expect_if, eat, after}
+use Rattle.sql_front.specs.Rules.{Rule, nothing, the_if, the, Both, ◌or◌}
+use Rattle.sql_front.specs.Symbols.{Symbol, Input, class_of, sees, behind}
 use Rattle.sql_front.proofs.Classes.{same_class-refl, same_class-false}
-use Rattle.sql_front.proofs.Exact.{SameHead, SameHead-append, SameHead-sym, Runs, gives, gives_up, runs_to, Good, takes, stops, Begins, weaker, same_reader, good_pure, good_both, begins_both, good_eat, good_expect_if}
+use Rattle.sql_front.proofs.Exact.{SameHead, SameHead-append, SameHead-sym, Runs, Good, takes, stops, Begins, weaker, same_reader, good_pure, good_both, begins_both, good_eat, good_expect_if}
 
 -- Symbols that a rule takes are read, or the reader refuses one of them that the first k symbols are not held
 -- to.

@@ -20,3 +20,10 @@ pub mod Statements
 pub mod Texts
 pub mod Verdicts
 pub mod Writing
+pub mod Lexing
+pub mod ExprAgain
+pub mod Given
+pub mod Again
+pub mod SelectAgain
+pub mod CreateAgain
+pub mod PrintedAgain

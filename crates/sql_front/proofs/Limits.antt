@@ -1,16 +1,16 @@
 -- What a window of 256 symbols does.
-use Rattle.std.proofs.Common.{◌≡◌, ℕ, zero, suc, ◌+◌, ◌-◌, ◌<◌, ◌≤◌, ◌&&◌, Bool, true, false, cond, List, [], ◌∷◌, ◌++◌, length, take, drop, Result, Ok, Err, refl, sym, ◌∙◌, ap, subst, arith, append_assoc, length-append, take-append-drop}
+use Rattle.std.proofs.Common.{◌≡◌, ℕ, ◌-◌, ◌&&◌, true, false, cond, [], ◌∷◌, ◌++◌, length, take, drop, Ok, Err, refl, sym, ◌∙◌, ap, subst, arith, append_assoc, length-append, take-append-drop}
 use Rattle.std.proofs.lemmas.List.{drop_at}
 use Rattle.sql_statements.specs.declared.expressions.Expr.{Expr}
 use Rattle.sql_front.specs.declared.levels.Level.TheVariants as level
 use Rattle.sql_front.specs.declared.stopping.Stop.{Stop}
 use Rattle.sql_front.specs.declared.stopping.Stop.TheVariants as stop
 use Rattle.sql_front.specs.Expressions.{row}
-use Rattle.sql_front.specs.Input.{Outcome, Reader, Reads}
+use Rattle.sql_front.specs.Input.{Outcome, Reads}
 use Rattle.sql_front.specs.ReadExpr as r
 use Rattle.sql_front.specs.ReadExpr.{goes_on, is_end, limited, expression}
 use Rattle.sql_front.specs.Symbols.{Input}
-use Rattle.sql_front.proofs.Exact.{Runs, gives, gives_up, runs_to, Good, takes, stops}
+use Rattle.sql_front.proofs.Exact.{runs_to, Good, takes, stops}
 use Rattle.sql_front.proofs.ExprReads.{part, good_whole}
 
 pub reads_ok : {X : Type 0} (o : Outcome X) (x : X) (new : Input) → Reads o (Ok x) new → o ≡ Ok (x, new)

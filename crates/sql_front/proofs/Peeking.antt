@@ -11,7 +11,7 @@ use Rattle.sql_words.specs.Tokens.{doubled, quoted}
 use Rattle.sql_front.specs.declared.stopping.Stop.{Stop}
 use Rattle.sql_front.specs.declared.stopping.Stop.TheVariants as stop
 use Rattle.sql_front.specs.Input.{Outcome, Reads, named, numbered, texted}
-use Rattle.sql_front.specs.Symbols.{Symbol, Input, symbol_by, symbol_of, content_behind}
+use Rattle.sql_front.specs.Symbols.{Input, symbol_by, symbol_of, content_behind}
 
 -- a call that answers the value, or that no memory is left, reads it
 pub reads_value : {X : Type 0} (o : Outcome X) (x : X) (i : Input) (r : Result X Stop) → o ≡ Ok (x, i) → IfOk r (λ y. y ≡ x) → IfErr r (λ e. e ≡ stop.Memory) → Reads o r i

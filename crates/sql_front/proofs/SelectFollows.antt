@@ -1,5 +1,5 @@
 -- SELECT is read by its rules.
-use Rattle.std.proofs.Common.{◌≡◌, ℕ, ◌⊎◌, inl, inr, ◌||◌, Bool, true, false, cond, List, [], ◌∷◌, ◌++◌, Option, Some, None, Result, Ok, Err, refl, sym, ◌∙◌, ap, subst}
+use Rattle.std.proofs.Common.{◌≡◌, ℕ, inl, inr, ◌||◌, true, false, cond, List, [], ◌∷◌, Option, Some, None, refl, ◌∙◌, ap}
 use Rattle.std.specs.Prelude.{ℤ}
 use Rattle.sql_words.specs.declared.reserved.Word.{Word}
 use Rattle.sql_words.specs.declared.reserved.Word.TheVariants as w
@@ -11,24 +11,21 @@ use Rattle.sql_statements.specs.declared.statements.Agg.{Agg}
 use Rattle.sql_statements.specs.declared.statements.Agg.TheVariants as agg
 use Rattle.sql_statements.specs.declared.statements.Selected.{Selected}
 use Rattle.sql_statements.specs.declared.statements.Selected.TheVariants as selected
-use Rattle.sql_statements.specs.declared.statements.Join.{Join}
 use Rattle.sql_statements.specs.declared.statements.OrderKey.{OrderKey}
-use Rattle.sql_statements.specs.declared.statements.Stmt.{Stmt}
 use Rattle.sql_statements.specs.declared.statements.Stmt.TheVariants as stmt
 use Rattle.sql_front.specs.Conditions.{is_other}
-use Rattle.sql_front.specs.Expressions.{an_expression}
 use Rattle.sql_front.specs.Grammar as g
 use Rattle.sql_front.specs.Input.{Reader, and_then, pure, expect_if, eat, any_name, name_if, small_number, listed}
 use Rattle.sql_front.specs.ReadExpr.{goes_on, expression, column}
 use Rattle.sql_front.specs.ReadExpr as e
 use Rattle.sql_front.specs.ReadStmt as r
-use Rattle.sql_front.specs.Rules.{Rule, nothing, the, a_list, Both, ◌or◌}
-use Rattle.sql_front.specs.Symbols.{Symbol, word, sign, name, number, text, Input, class_of, same_class, sees}
+use Rattle.sql_front.specs.Rules.{nothing, the, a_list, Both, ◌or◌}
+use Rattle.sql_front.specs.Symbols.{Symbol, word, sign, Input, class_of, same_class, sees}
 use Rattle.sql_front.proofs.Commas.{follows_list}
 use Rattle.sql_front.proofs.Exact.{SameHead, sees_same}
 use Rattle.sql_front.proofs.ExprFollows.{Starter, not_word, null_word, minus_sign, open_sign, its_name, its_number, its_text, EndsExpr, follows_expression}
-use Rattle.sql_front.proofs.Follows.{Follows, Heading, Starting, starting_heading, Among, Next, First, Anything, heading, sees_it, follows_within, follows_pure, follows_both, follows_the, follows_eat, follows_choice}
-use Rattle.sql_front.proofs.StmtFollows.{next_ends, next_sees, next_more, first_sees, first_more, first_is, Named, follows_name, follows_name_if, follows_small_number, IsNumber, semicolon, closed, ordered, close_ends, close_no_comma, comma_ends, follows_value, follows_condition}
+use Rattle.sql_front.proofs.Follows.{Follows, Starting, starting_heading, Among, Next, First, Anything, follows_within, follows_pure, follows_both, follows_the, follows_eat, follows_choice}
+use Rattle.sql_front.proofs.StmtFollows.{next_ends, next_sees, next_more, first_sees, first_more, Named, follows_name, follows_name_if, follows_small_number, semicolon, ordered, close_ends, comma_ends, follows_value, follows_condition}
 use Rattle.sql_front.proofs.SymbolFacts.{word_is, sign_is}
 
 -- ---- aggregates

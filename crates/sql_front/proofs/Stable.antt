@@ -1,10 +1,10 @@
 -- What a reader that follows a rule took, and that it does the same before other symbols.
-use Rattle.std.proofs.Common.{◌≡◌, ℕ, ◌+◌, ◌≤◌, List, [], ◌∷◌, ◌++◌, length, Result, Ok, Err, refl, sym, ◌∙◌, ap, subst, arith, length-append}
+use Rattle.std.proofs.Common.{◌≡◌, ℕ, ◌+◌, ◌≤◌, ◌++◌, length, Ok, Err, sym, ◌∙◌, ap, subst, arith}
 use Rattle.std.proofs.lemmas.List.{append_cancel_right}
 use Rattle.sql_front.specs.Input.{Outcome, Reader}
 use Rattle.sql_front.specs.Rules.{Rule}
 use Rattle.sql_front.specs.Symbols.{Input}
-use Rattle.sql_front.proofs.Exact.{SameHead, Runs, gives, gives_up, runs_to, Good, takes, stops}
+use Rattle.sql_front.proofs.Exact.{SameHead, runs_to, Good, takes, stops}
 
 -- an outcome is one
 pub both_ok : {X : Type 0} (o : Outcome X) (x y : X) (q r : Input) → o ≡ Ok (x, q) → o ≡ Ok (y, r) → (x ≡ y) × (q ≡ r)

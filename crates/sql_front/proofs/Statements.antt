@@ -1,8 +1,7 @@
 -- A statement is read by its rule, and where the reader stops nothing goes on.
-use Rattle.std.proofs.Common.{◌≡◌, ℕ, suc, ◌+◌, ◌-◌, ◌<◌, ◌≤◌, ◌⊎◌, inl, inr, Bool, true, false, cond, List, [], ◌∷◌, ◌++◌, length, Option, Some, None, Result, Ok, Err, refl, sym, ◌∙◌, ap, subst, arith, append_assoc, append-nil, length-append}
+use Rattle.std.proofs.Common.{◌≡◌, ℕ, ◌≤◌, inl, Bool, true, cond, List, [], ◌∷◌, ◌++◌, length, Ok, Err, refl, sym, ◌∙◌, ap, subst, arith, append_assoc, append-nil, length-append}
 use Rattle.sql_words.specs.declared.reserved.Word.TheVariants as w
 use Rattle.sql_words.specs.declared.signs.Sign.TheVariants as s
-use Rattle.sql_words.specs.declared.tokens.Class.{Class}
 use Rattle.sql_words.specs.declared.tokens.Class.TheVariants as c
 use Rattle.sql_statements.specs.declared.statements.Stmt.{Stmt}
 use Rattle.sql_statements.specs.declared.statements.Stmt.TheVariants as stmt
@@ -12,11 +11,11 @@ use Rattle.sql_front.specs.Input.{Outcome, Reader, and_then, pure, expect_if, ea
 use Rattle.sql_front.specs.ReadStmt as r
 use Rattle.sql_front.specs.Rules.{Rule, nothing, the, Both, ◌or◌}
 use Rattle.sql_front.specs.Sentences.{BeginStatement}
-use Rattle.sql_front.specs.Symbols.{Symbol, word, sign, Input, class_of, same_class, sees}
-use Rattle.sql_front.proofs.Exact.{SameHead, SameHead-refl, Runs, gives, gives_up, runs_to, Good, takes, stops}
-use Rattle.sql_front.proofs.Follows.{Judged, reads, falls, Follows, Heading, Starting, starting_heading, Among, Next, First, Anything, follows_within, follows_as, follows_pure, follows_both, follows_the, follows_eat}
+use Rattle.sql_front.specs.Symbols.{Symbol, word, sign, Input, same_class}
+use Rattle.sql_front.proofs.Exact.{SameHead, runs_to, Good, takes, stops}
+use Rattle.sql_front.proofs.Follows.{Judged, reads, falls, Follows, Next, First, Anything, follows_within, follows_as, follows_pure, follows_both, follows_the, follows_eat}
 use Rattle.sql_front.proofs.SelectFollows.{follows_select}
-use Rattle.sql_front.proofs.Stable.{Took, Stopped, took, stopped, still_err, both_ok}
+use Rattle.sql_front.proofs.Stable.{took, stopped, still_err, both_ok}
 use Rattle.sql_front.proofs.StmtFollows.{next_sees, next_more, first_sees, first_more, Ended, semicolon, follows_create, follows_insert, follows_update, follows_delete}
 use Rattle.sql_front.proofs.SymbolFacts.{word_is, sign_is}
 

@@ -1,8 +1,7 @@
 -- Statements are read by their rules.
-use Rattle.std.proofs.Common.{◌≡◌, ℕ, zero, suc, ◌+◌, ◌-◌, ◌<◌, ◌≤◌, ◌^◌, ◌⊎◌, inl, inr, ◌||◌, Bool, true, false, cond, not, List, [], ◌∷◌, ◌++◌, length, Option, Some, None, Result, Ok, Err, refl, sym, ◌∙◌, ap, subst, arith}
+use Rattle.std.proofs.Common.{◌≡◌, ℕ, zero, suc, ◌<◌, ◌≤◌, ◌^◌, ◌⊎◌, inl, inr, Bool, true, false, cond, List, [], ◌∷◌, Some, None, Ok, Err, refl, sym, ◌∙◌, ap, subst, arith}
 use Rattle.std.proofs.lemmas.Bool.{lt-ltb}
-use Rattle.std.specs.Prelude.{ℤ, pos, nat_lt}
-use Rattle.sql_values.specs.declared.values.Sort.{Sort}
+use Rattle.std.specs.Prelude.{ℤ, pos}
 use Rattle.sql_values.specs.declared.values.Sort.TheVariants as sort
 use Rattle.sql_words.specs.declared.reserved.Word.TheVariants as w
 use Rattle.sql_words.specs.declared.signs.Sign.TheVariants as s
@@ -11,28 +10,19 @@ use Rattle.sql_words.specs.declared.tokens.Class.TheVariants as c
 use Rattle.sql_front.specs.declared.definitions.Definition.{Definition}
 use Rattle.sql_statements.specs.declared.expressions.Expr.{Expr}
 use Rattle.sql_statements.specs.declared.statements.SetItem.{SetItem}
-use Rattle.sql_statements.specs.declared.statements.Agg.{Agg}
-use Rattle.sql_statements.specs.declared.statements.Agg.TheVariants as agg
-use Rattle.sql_statements.specs.declared.statements.Selected.{Selected}
-use Rattle.sql_statements.specs.declared.statements.Selected.TheVariants as selected
-use Rattle.sql_statements.specs.declared.statements.Join.{Join}
-use Rattle.sql_statements.specs.declared.statements.OrderKey.{OrderKey}
-use Rattle.sql_statements.specs.declared.statements.Stmt.{Stmt}
 use Rattle.sql_statements.specs.declared.statements.Stmt.TheVariants as stmt
-use Rattle.sql_front.specs.Conditions.{is_new_column, is_keyless, has_key, schema, is_new, is_new_set, is_other}
-use Rattle.sql_front.specs.Expressions.{an_expression}
+use Rattle.sql_front.specs.Conditions.{is_new_column, is_keyless, has_key, schema, is_new, is_new_set}
 use Rattle.sql_front.specs.Grammar as g
-use Rattle.sql_front.specs.Input.{Reader, and_then, pure, expect_if, eat, any_name, name_if, named, small_number, numbered, listed}
+use Rattle.sql_front.specs.Input.{Reader, and_then, pure, expect_if, any_name, name_if, named, small_number, numbered, listed}
 use Rattle.sql_front.specs.ReadExpr.{goes_on, expression, column, is_end}
 use Rattle.sql_front.specs.ReadExpr as e
 use Rattle.sql_front.specs.ReadStmt as r
-use Rattle.sql_front.specs.Rules.{Rule, nothing, the, the_if, a_name, a_name_if, a_small_number, a_list, Both, ◌or◌}
-use Rattle.sql_front.specs.Symbols.{Symbol, word, sign, name, number, text, Input, class_of, same_class, sees, behind}
-use Rattle.sql_front.proofs.Classes.{same_class-false}
+use Rattle.sql_front.specs.Rules.{a_name, a_name_if, a_small_number}
+use Rattle.sql_front.specs.Symbols.{Symbol, word, sign, name, number, Input, class_of, same_class, sees, behind}
 use Rattle.sql_front.proofs.Commas.{follows_list}
-use Rattle.sql_front.proofs.Exact.{SameHead, sees_same, Good}
-use Rattle.sql_front.proofs.ExprFollows.{goes_on-none, Starter, not_word, null_word, minus_sign, open_sign, its_name, its_number, its_text, EndsExpr, follows_expression}
-use Rattle.sql_front.proofs.Follows.{sees_it, Follows, Heading, Starting, starting_heading, Among, Next, First, Anything, heading, heading_all, sees_no, follows_within, follows_as, follows_pure, follows_both, follows_the_if, follows_the, follows_eat, follows_one, follows_choice}
+use Rattle.sql_front.proofs.Exact.{sees_same}
+use Rattle.sql_front.proofs.ExprFollows.{goes_on-none, Starter, EndsExpr, follows_expression}
+use Rattle.sql_front.proofs.Follows.{sees_it, Follows, Starting, starting_heading, Among, Next, First, Anything, heading, heading_all, follows_pure, follows_both, follows_the_if, follows_the, follows_eat, follows_one, follows_choice}
 use Rattle.sql_front.proofs.SymbolFacts.{word_is, sign_is, good_any_name, good_name_if, good_small_number}
 
 -- ---- what comes next

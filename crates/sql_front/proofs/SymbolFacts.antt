@@ -1,14 +1,12 @@
 -- A symbol by its class, and names, numbers and texts that come next.
-use Rattle.std.proofs.Common.{◌≡◌, ℕ, ◌-◌, ◌<◌, Bool, true, false, cond, List, [], ◌∷◌, ◌++◌, length, Result, Ok, Err, refl, sym, ◌∙◌, ap, subst, arith, ltb, lit<, ltb-true}
-use Rattle.std.proofs.lemmas.Bool.Decides.{nat_tests}
+use Rattle.std.proofs.Common.{◌≡◌, ℕ, Bool, true, false, cond, List, [], ◌∷◌, Ok, Err, refl, ap, arith, ltb, lit<, ltb-true}
 use Rattle.std.specs.Prelude.{pos, neg_ℤ, ℤ}
 use Rattle.sql_words.specs.declared.reserved.Word.{Word}
 use Rattle.sql_words.specs.declared.signs.Sign.{Sign}
-use Rattle.sql_words.specs.declared.tokens.Class.{Class}
 use Rattle.sql_words.specs.declared.tokens.Class.TheVariants as c
-use Rattle.sql_front.specs.Input.{Reader, and_then, pure, named, any_name, name_if, numbered, small_number, negative_number, texted, text_value, step, expect, eat, after}
+use Rattle.sql_front.specs.Input.{Reader, and_then, named, any_name, name_if, numbered, small_number, negative_number, texted, text_value}
 use Rattle.sql_front.specs.Rules.{Rule, a_name, a_name_if, a_small_number, a_negative_number, a_text}
-use Rattle.sql_front.specs.Symbols.{Symbol, word, sign, name, number, text, Input, class_of, sees, behind}
+use Rattle.sql_front.specs.Symbols.{Symbol, word, sign, name, number, text, Input, class_of, behind}
 use Rattle.sql_front.proofs.Exact.{Good, at_end, refusing, taking}
 
 pub word_is : (w : Word) (s : Symbol) → class_of s ≡ c.Reserved w → s ≡ word w

@@ -1,5 +1,5 @@
 -- The tokens of a text: what each keeps, and that they stand in order.
-use Rattle.std.proofs.Common.{◌≡◌, ℕ, suc, ◌+◌, ◌-◌, ◌*◌, ◌<◌, ◌≤◌, ◌^◌, ◌&&◌, Bool, true, false, cond, List, [], ◌∷◌, ◌++◌, length, map, Option, Some, None, refl, sym, ◌∙◌, ap, subst, arith, append_assoc, length-append}
+use Rattle.std.proofs.Common.{◌≡◌, ℕ, ◌+◌, ◌<◌, ◌≤◌, ◌^◌, ◌&&◌, Bool, true, false, List, [], ◌∷◌, ◌++◌, length, Option, Some, None, refl, ◌∙◌, ap, arith, length-append}
 use Rattle.std.proofs.lemmas.Bool.{leb-true, ltb-true}
 use Rattle.std.specs.List.{list_all}
 use Rattle.std.specs.Option.{unwrap_or}
@@ -8,7 +8,7 @@ use Rattle.sql_words.specs.declared.tokens.Class.{Class}
 use Rattle.sql_words.specs.declared.tokens.Class.TheVariants as c
 use Rattle.sql_words.specs.Front.{value_of, is_allowed}
 use Rattle.sql_words.specs.Lexed.{Lexed}
-use Rattle.sql_words.specs.Tokens.{IsToken, IsWholeWord, IsWholeNumber, AreTokens, Cuts, Fails, is_minus, is_joined}
+use Rattle.sql_words.specs.Tokens.{IsToken, IsWholeWord, IsWholeNumber, AreTokens, Cuts, is_minus, is_joined}
 use Rattle.sql_front.specs.Good.{IsGood, AreGood}
 use Rattle.sql_front.specs.Sentences.{place}
 
@@ -25,7 +25,7 @@ number_digits : (bytes rest : List ℕ) → IsWholeNumber bytes rest → list_al
 number_digits [] rest h = absurd h
 number_digits (b ∷ bytes) rest h = both_true (is_digit b) (list_all is_digit bytes) h.0 h.1
 
-number_bound : (minus : Bool) (n : ℕ) → is_allowed minus n ≡ true → n ≤ 2 ^ 63
+pub number_bound : (minus : Bool) (n : ℕ) → is_allowed minus n ≡ true → n ≤ 2 ^ 63
 number_bound true n h = leb-true n 9223372036854775808 h
 number_bound false n h = let less = ltb-true n 9223372036854775808 h in omega arith
 

@@ -1,5 +1,5 @@
 -- What a parse answers.
-use Rattle.std.proofs.Common.{◌≡◌, ℕ, zero, suc, ◌+◌, ◌-◌, ◌<◌, ◌≤◌, ◌⊎◌, inl, inr, ◌↔◌, min, Bool, true, false, cond, ltb, List, [], ◌∷◌, ◌++◌, length, map, take, drop, Option, Some, None, Result, Ok, Err, refl, sym, ◌∙◌, ap, subst, arith, append_assoc, append-nil, length-append, take-append-drop}
+use Rattle.std.proofs.Common.{◌≡◌, ℕ, ◌-◌, ◌<◌, ◌≤◌, ◌⊎◌, inl, inr, ◌↔◌, min, Bool, true, false, cond, ltb, List, [], ◌∷◌, ◌++◌, length, map, drop, Option, Some, None, Result, Ok, Err, refl, sym, ◌∙◌, ap, subst, arith, append_assoc, append-nil, length-append}
 use Rattle.std.proofs.lemmas.Bool.{cases_lt, ltb-true, ltb-false}
 use Rattle.std.proofs.lemmas.List.{length-map}
 use Rattle.std.specs.Option.{unwrap_or}
@@ -12,7 +12,7 @@ use Rattle.sql_front.specs.Grammar.{IsStatement}
 use Rattle.sql_front.specs.Input.{Outcome}
 use Rattle.sql_front.specs.ReadStmt.{statement}
 use Rattle.sql_front.specs.Sentences.{IsSql, BeginStatement, IsWrongAt, no_token, no_statement, unfinished, too_long, IsFirst, place, limited, ReadsAll}
-use Rattle.sql_front.specs.Symbols.{Symbol, Input, symbol_of}
+use Rattle.sql_front.specs.Symbols.{Input, symbol_of}
 use Rattle.sql_front.proofs.Statements.{all_read, passed_begin, stopped_ends, one_meaning, read_means, stop_rest, left_of}
 use Rattle.sql_front.proofs.Texts.{end_of, in_order}
 

@@ -18,7 +18,7 @@ use Rattle.sql_words.specs.declared.reserved.Word.TheVariants as w
 use Rattle.sql_words.specs.Bytes.{is_quote}
 use Rattle.sql_words.specs.Tokens.{doubled}
 use Rattle.sql_front.specs.Printed.{written, spaced, spelled, others, listed, int_symbols, value_symbols, column_symbols, enclosed, Form, form, form_step, expr_symbols, null_symbols, operator_symbol, is_column, is_plain}
-use Rattle.sql_front.specs.Symbols.{Symbol, Input, sign, word, number}
+use Rattle.sql_front.specs.Symbols.{Input, sign, word, number}
 
 pub written_append : (out : List ℕ) (i j : Input) → written out (i ++ j) ≡ written (written out i) j
 written_append out [] j = refl

@@ -1,5 +1,5 @@
 -- The grammar of expressions: which symbols are an expression of which level, and what it means.
-use Rattle.std.specs.Prelude.{◌≡◌, ℕ, ◌<◌, ◌≤◌, ◌^◌, length, Bool, true, false, List, [], ◌∷◌, ◌++◌, Option, Some, None, pos, neg_ℤ}
+use Rattle.std.specs.Prelude.{ℕ, ◌<◌, ◌≤◌, ◌^◌, length, true, false, List, [], ◌∷◌, ◌++◌, Some, None, pos, neg_ℤ}
 use Rattle.sql_values.specs.declared.values.Value.TheVariants as value
 use Rattle.sql_words.specs.declared.reserved.Word.TheVariants as w
 use Rattle.sql_words.specs.declared.signs.Sign.TheVariants as s

@@ -1,5 +1,5 @@
 -- The grammar of statements, and what each statement means.
-use Rattle.std.specs.Prelude.{ℕ, ℤ, List, [], ◌∷◌, ◌++◌, length, Option, Some, None, Bool, true, false}
+use Rattle.std.specs.Prelude.{ℕ, ℤ, List, [], length, Option, Some, None, Bool, true, false}
 use Rattle.sql_values.specs.declared.values.Sort.{Sort}
 use Rattle.sql_values.specs.declared.values.Sort.TheVariants as sort
 use Rattle.sql_words.specs.declared.reserved.Word.TheVariants as w
@@ -13,7 +13,6 @@ use Rattle.sql_statements.specs.declared.statements.Selected.{Selected}
 use Rattle.sql_statements.specs.declared.statements.Selected.TheVariants as selected
 use Rattle.sql_statements.specs.declared.statements.Join.{Join}
 use Rattle.sql_statements.specs.declared.statements.OrderKey.{OrderKey}
-use Rattle.sql_statements.specs.declared.statements.Select.{Select}
 use Rattle.sql_statements.specs.declared.statements.Stmt.{Stmt}
 use Rattle.sql_statements.specs.declared.statements.Stmt.TheVariants as stmt
 use Rattle.sql_front.specs.Conditions.{is_new_column, is_keyless, has_key, schema, is_new, is_new_set, is_other}

@@ -1,12 +1,12 @@
 -- Readers: each takes what is left of a statement and answers a value and what is left behind it, or what is
 -- left where it refuses.
-use Rattle.std.specs.Prelude.{◌≡◌, ℕ, zero, suc, Bool, true, false, if◌then◌else◌, List, [], ◌∷◌, ◌++◌, length, Option, Some, None, Result, Ok, Err, ℤ, pos, neg_ℤ, nat_lt}
+use Rattle.std.specs.Prelude.{◌≡◌, ℕ, zero, suc, Bool, true, if◌then◌else◌, List, [], ◌∷◌, ◌++◌, length, Result, Ok, Err, ℤ, pos, neg_ℤ, nat_lt}
 use Rattle.sql_front.specs.declared.stopping.Stop.{Stop}
 use Rattle.sql_front.specs.declared.stopping.Stop.TheVariants as stop
 use Rattle.sql_words.specs.declared.signs.Sign.TheVariants as s
 use Rattle.sql_words.specs.declared.tokens.Class.{Class}
 use Rattle.sql_words.specs.declared.tokens.Class.TheVariants as c
-use Rattle.sql_front.specs.Symbols.{Symbol, name, number, text, Input, sees, behind}
+use Rattle.sql_front.specs.Symbols.{name, number, text, Input, sees, behind}
 
 abbrev pub Outcome : Type 0 → Type 0
 Outcome X = Result (X × Input) Input

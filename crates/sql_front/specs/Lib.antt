@@ -9,4 +9,5 @@ pub mod ReadExpr
 pub mod ReadStmt
 pub mod Rules
 pub mod Sentences
+pub mod Short
 pub mod Symbols

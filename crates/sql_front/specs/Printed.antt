@@ -1,5 +1,5 @@
 -- The printed form of statements: first as symbols, and then as text with a space between two of them.
-use Rattle.std.specs.Prelude.{ℕ, suc, ◌+◌, Bool, true, false, not, if◌then◌else◌, nat_eq, List, [], ◌∷◌, ◌++◌, Option, Some, None, ℤ, pos, negsuc, decimal}
+use Rattle.std.specs.Prelude.{ℕ, suc, ◌+◌, Bool, true, false, not, nat_eq, List, [], ◌∷◌, ◌++◌, Option, Some, None, ℤ, pos, negsuc, decimal}
 use Rattle.std.specs.List.{flat_map}
 use Rattle.sql_values.specs.declared.schemas.Column.{Column}
 use Rattle.sql_values.specs.declared.schemas.Schema.{Schema}
@@ -107,7 +107,7 @@ behind_minus x = enclosed (not x.column) x.symbols
 abbrev pub operand : Form → Input
 operand x = enclosed (not x.plain) x.symbols
 
-abbrev complex : Input → Form
+abbrev pub complex : Input → Form
 complex i = record { column = false; plain = false; symbols = i }
 
 -- one layer of an expression, with the form of each part in its place

@@ -1,11 +1,7 @@
 -- How statements are read, part by part.
-use Rattle.std.specs.Prelude.{ℕ, ℤ, Bool, true, false, ◌&&◌, ◌||◌, not, if◌then◌else◌, List, [], ◌∷◌, ◌++◌, length, map, Option, Some, None, Result, Ok, Err, nat_lt}
-use Rattle.std.specs.List.{list_any, position_or_len}
-use Rattle.std.specs.Str.{bytes_eq}
+use Rattle.std.specs.Prelude.{ℕ, ℤ, Bool, true, false, ◌||◌, if◌then◌else◌, List, [], Option, Some, None, Ok, Err}
 use Rattle.sql_values.specs.declared.values.Sort.{Sort}
 use Rattle.sql_values.specs.declared.values.Sort.TheVariants as sort
-use Rattle.sql_values.specs.declared.schemas.Column.{Column}
-use Rattle.sql_values.specs.declared.schemas.Schema.{Schema}
 use Rattle.sql_words.specs.declared.reserved.Word.TheVariants as w
 use Rattle.sql_words.specs.declared.signs.Sign.TheVariants as s
 use Rattle.sql_words.specs.declared.tokens.Class.TheVariants as c
@@ -18,11 +14,10 @@ use Rattle.sql_statements.specs.declared.statements.Selected.{Selected}
 use Rattle.sql_statements.specs.declared.statements.Selected.TheVariants as selected
 use Rattle.sql_statements.specs.declared.statements.Join.{Join}
 use Rattle.sql_statements.specs.declared.statements.OrderKey.{OrderKey}
-use Rattle.sql_statements.specs.declared.statements.Select.{Select}
 use Rattle.sql_statements.specs.declared.statements.Stmt.{Stmt}
 use Rattle.sql_statements.specs.declared.statements.Stmt.TheVariants as stmt
 use Rattle.sql_front.specs.Symbols.{Input, sees}
-use Rattle.sql_front.specs.Input.{Reader, ◌>>=◌, ◌>>◌, pure, refuse, expect, expect_if, eat, any_name, name_if, small_number, listed}
+use Rattle.sql_front.specs.Input.{Reader, ◌>>=◌, ◌>>◌, pure, expect, expect_if, eat, any_name, name_if, small_number, listed}
 use Rattle.sql_front.specs.Conditions.{is_new_column, is_keyless, has_key, schema, is_new, is_new_set, is_other}
 use Rattle.sql_front.specs.ReadExpr.{expression, column, is_end}
 

@@ -1,6 +1,5 @@
 -- The symbols of the grammar: what the tokens of a text stand for.
-use Rattle.std.specs.Prelude.{◌≡◌, ℕ, ◌+◌, ◌<◌, ◌≤◌, Bool, true, false, if◌then◌else◌, ◌==◌, List, [], ◌∷◌, ◌++◌, length, map, drop}
-use Rattle.std.specs.Coded.{Coded}
+use Rattle.std.specs.Prelude.{ℕ, ◌+◌, Bool, false, if◌then◌else◌, ◌==◌, List, [], ◌∷◌, drop}
 use Rattle.sql_words.specs.declared.reserved.Word.{Word}
 use Rattle.sql_words.specs.declared.reserved.Word.TheVariants as w
 use Rattle.sql_words.specs.declared.signs.Sign.{Sign}

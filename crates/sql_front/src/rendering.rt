@@ -1,8 +1,10 @@
 //! Statements as text.
 
-ghost use Rattle.std.specs.Prelude.{◌≡◌, ◌∷◌, [], IfOk};
+ghost use Rattle.std.specs.Prelude.{◌≡◌, ◌∷◌, [], IfOk, ℕ, List};
 ghost use Rattle.sql_front.specs.Printed as spec;
 ghost use Rattle.sql_front.specs.Printed.{written};
+ghost use Rattle.sql_front.specs.Sentences.{IsSql};
+ghost use Rattle.sql_front.specs.Short.{KeepsLimits};
 ghost use Rattle.sql_front.specs.Symbols as symbol;
 
 use crate::printing::expr;
@@ -199,9 +201,12 @@ fn statement(alloc: Global, out: &mut Text, printed: &Stmt) -> Result<(), WantOf
 }
 
 /// The text of a statement: words in upper case, one space between tokens, brackets round each operand
-/// that is no literal and no column, and round a literal behind a minus.
+/// that is no literal and no column, and round a literal behind a minus. Where a text says the statement,
+/// the printed one says it too, if it keeps the limits of a text and of its expressions.
+#[tactic(auto, using(crate::proofs::PrintedAgain::printed_so))]
 pub fn print(alloc: Global, printed: &Stmt) -> Result<Text, WantOfMemory>
     ensures text { IfOk result (λ text. text ≡ spec.printed printed.now) }
+    ensures again { (sql : List ℕ) → IsSql sql printed.now → KeepsLimits printed.now → IfOk result (λ text. IsSql text printed.now) }
 {
     let mut out = Text::new(alloc);
     statement(alloc, &mut out, printed)?;

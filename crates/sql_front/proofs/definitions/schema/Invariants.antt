@@ -1,4 +1,4 @@
-use Rattle.std.proofs.Common.{◌≡◌, ◌++◌, map}
+use Rattle.std.proofs.Common.{◌≡◌, map}
 use Rattle.sql_front.proofs.definitions.schema.Given as goal
 
 -- the columns so far are those of the definitions that were taken

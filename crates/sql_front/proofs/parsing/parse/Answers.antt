@@ -1,4 +1,4 @@
-use Rattle.std.proofs.Common.{◌≡◌, ◌↔◌, ◌≤◌, Ok, Err, None, refl, sym, ◌∙◌, ap, subst, map, length, drop, ◌-◌, ℕ, arith}
+use Rattle.std.proofs.Common.{None, sym, ◌∙◌, ap, subst, map, length}
 use Rattle.sql_words.specs.Tokens.{AreTokensOf}
 use Rattle.sql_front.specs.Sentences.{IsSql, IsWrongAt, IsFirst, ReadsAll, limited}
 use Rattle.sql_front.specs.Symbols.{symbol_of}

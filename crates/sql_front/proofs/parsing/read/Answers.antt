@@ -1,5 +1,4 @@
-use Rattle.std.proofs.Common.{◌≡◌, map, sym, ◌∙◌, ap}
-use Rattle.sql_front.specs.Input.{Outcome}
+use Rattle.std.proofs.Common.{map, sym, ◌∙◌, ap}
 use Rattle.sql_front.specs.ReadStmt.{statement}
 use Rattle.sql_front.specs.Symbols.{symbol_of}
 use Rattle.sql_front.proofs.Limits.{reads_ok}

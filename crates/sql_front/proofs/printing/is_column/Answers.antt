@@ -1,4 +1,3 @@
-use Rattle.std.proofs.Common.{◌≡◌}
 use Rattle.sql_front.proofs.Writing.{lit_flags, col_flags, neg_flags, not_flags, null_flags, two_flags}
 use Rattle.sql_front.proofs.printing.is_column.Goals as goal
 

@@ -1,4 +1,4 @@
-use Rattle.std.proofs.Common.{◌≡◌, ◌-◌, ◌+◌, length, drop, sym, ◌∙◌, ap, arith, false}
+use Rattle.std.proofs.Common.{◌-◌, length, drop, sym, ◌∙◌, ap}
 use Rattle.sql_front.proofs.Limits.{reads_limited, reads_over, reads_stop}
 use Rattle.sql_front.proofs.reading.expression.Goals as goal
 use Rattle.sql_front.proofs.reading.expression.Goals.{else-left-eq0-via-then-left-eq0+else-goes_on, else-left-eq0-via-else-left-eq0}

@@ -1,5 +1,4 @@
-use Rattle.std.proofs.Common.{◌≡◌, IfOk, subst, drop}
-use Rattle.sql_front.specs.Printed.{written, listed, others}
+use Rattle.std.proofs.Common.{◌≡◌, IfOk, subst}
 use Rattle.sql_front.proofs.Writing.{listed_first}
 use Rattle.sql_front.proofs.showing.list.Goals as goal
 

@@ -1,4 +1,3 @@
-use Rattle.std.proofs.Common.{◌≡◌}
 use Rattle.sql_front.proofs.Writing.{others_more}
 use Rattle.sql_front.proofs.showing.others.Goals as goal
 

@@ -1,4 +1,4 @@
-use Rattle.std.proofs.Common.{◌≡◌, ◌++◌, length, arith}
+use Rattle.std.proofs.Common.{arith}
 use Rattle.sql_front.proofs.Writing.{content_done}
 use Rattle.sql_front.proofs.spelling.content.Goals as goal
 

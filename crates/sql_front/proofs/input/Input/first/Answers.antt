@@ -1,4 +1,4 @@
-use Rattle.std.proofs.Common.{◌≡◌, [], ◌∷◌, sym, ◌∙◌, ap, subst}
+use Rattle.std.proofs.Common.{◌≡◌, ◌∷◌, sym, ◌∙◌, ap, subst}
 use Rattle.sql_words.specs.Lexed.{Lexed}
 use Rattle.sql_front.specs.Good.{IsGood}
 use Rattle.sql_front.specs.Symbols.{symbol_of, behind}

@@ -1,4 +1,4 @@
-use Rattle.std.proofs.Common.{◌≡◌, ◌≤◌, ◌^◌, refl, sym, ◌∙◌, ap, subst}
+use Rattle.std.proofs.Common.{sym, ◌∙◌, ap}
 use Rattle.sql_words.specs.Front.{value_of}
 use Rattle.sql_words.specs.Lexed.{Lexed}
 use Rattle.sql_front.proofs.Peeking.{reads_value, reads_refusal, sees_number, sees_no_number}

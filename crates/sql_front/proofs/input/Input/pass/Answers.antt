@@ -1,4 +1,4 @@
-use Rattle.std.proofs.Common.{drop, ◌∙◌, ap, arith}
+use Rattle.std.proofs.Common.{drop, ◌∙◌, ap}
 use Rattle.sql_front.proofs.CursorLaws.{symbols_left-pass, symbols_left-passed}
 use Rattle.sql_front.proofs.input.Input.pass.Goals as goal
 

@@ -1,5 +1,4 @@
-use Rattle.std.proofs.Common.{◌≡◌, List, sym, ◌∙◌, ap, refl}
-use Rattle.std.proofs.Math.Seq.{drop-cons}
+use Rattle.std.proofs.Common.{sym, ◌∙◌, ap}
 use Rattle.sql_front.specs.Symbols.{behind}
 use Rattle.sql_front.proofs.CursorLaws.{behind_next, symbols_left-nil}
 use Rattle.sql_front.proofs.input.Input.step.Goals as goal

@@ -1,8 +1,7 @@
-use Rattle.std.proofs.Common.{◌≡◌, List, ℕ, sym, ◌∙◌, ap, subst}
+use Rattle.std.proofs.Common.{sym, ◌∙◌, ap, subst}
 use Rattle.sql_words.specs.declared.tokens.Class.{Class}
 use Rattle.sql_words.specs.declared.tokens.Class.TheVariants as c
 use Rattle.sql_words.specs.Lexed.{Lexed}
-use Rattle.sql_words.specs.Tokens.{quoted}
 use Rattle.sql_front.specs.Good.{IsGood}
 use Rattle.sql_front.proofs.Peeking.{reads_value, reads_refusal, sees_text, sees_no_text}
 use Rattle.sql_front.proofs.input.Input.texted.Goals as goal

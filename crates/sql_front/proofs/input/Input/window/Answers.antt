@@ -1,4 +1,4 @@
-use Rattle.std.proofs.Common.{◌≡◌, take, sym, ◌∙◌, ap, arith}
+use Rattle.std.proofs.Common.{take, ◌∙◌, ap, arith}
 use Rattle.sql_front.specs.Cursor.{symbols_left}
 use Rattle.sql_front.proofs.CursorLaws.{symbols_left-window, symbols_left-all}
 use Rattle.sql_front.proofs.input.Input.window.Goals as goal
