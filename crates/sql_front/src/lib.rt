@@ -16,6 +16,8 @@ mod rendering;
 mod showing;
 mod spelling;
 mod stopping;
+#[cfg(test)]
+mod tests;
 
 pub use laws::one_meaning;
 pub use parsing::{LONGEST_TEXT, Syntax, parse};
