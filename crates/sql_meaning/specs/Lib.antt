@@ -1,0 +1,6 @@
+pub mod Evaluation
+pub mod Kinds
+pub mod Names
+pub mod Places
+pub mod Refusals
+pub mod Terms
