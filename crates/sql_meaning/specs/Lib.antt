@@ -4,4 +4,5 @@ pub mod Names
 pub mod Places
 pub mod Ranges
 pub mod Refusals
+pub mod Sorts
 pub mod Terms

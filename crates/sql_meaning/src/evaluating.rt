@@ -12,7 +12,11 @@ use std::cmp::Ordering;
 
 impl Resolved {
     /// What the expression gives in the row. A truth gives NULL, which no statement of right sorts asks.
-    pub fn value(&self, alloc: Global, row: &[Value]) -> Result<Result<Value, Overflow>, WantOfMemory>
+    pub fn value(
+        &self,
+        alloc: Global,
+        row: &[Value],
+    ) -> Result<Result<Value, Overflow>, WantOfMemory>
         ensures { IfOk result (λ r. r ≡ value_in row.now (term self.now)) }
     {
         match self {
@@ -37,7 +41,11 @@ impl Resolved {
     }
 
     /// The truth of the condition in the row. A value is Unknown: NULL is the one that stands for a truth.
-    pub fn truth(&self, alloc: Global, row: &[Value]) -> Result<Result<Truth, Overflow>, WantOfMemory>
+    pub fn truth(
+        &self,
+        alloc: Global,
+        row: &[Value],
+    ) -> Result<Result<Truth, Overflow>, WantOfMemory>
         ensures { IfOk result (λ r. r ≡ truth_in row.now (term self.now)) }
     {
         match self {
@@ -50,7 +58,11 @@ impl Resolved {
                 Ok(value) => Ok(Ok(null_truth(*not, &value))),
                 Err(overflow) => Ok(Err(overflow)),
             },
-            Resolved::Two { op: Op::And, left, right } => match left.get().truth(alloc, row)? {
+            Resolved::Two {
+                op: Op::And,
+                left,
+                right,
+            } => match left.get().truth(alloc, row)? {
                 Ok(Truth::No) => Ok(Ok(Truth::No)),
                 Ok(first) => match right.get().truth(alloc, row)? {
                     Ok(second) => Ok(Ok(and(first, second))),
@@ -58,7 +70,11 @@ impl Resolved {
                 },
                 Err(overflow) => Ok(Err(overflow)),
             },
-            Resolved::Two { op: Op::Or, left, right } => match left.get().truth(alloc, row)? {
+            Resolved::Two {
+                op: Op::Or,
+                left,
+                right,
+            } => match left.get().truth(alloc, row)? {
                 Ok(Truth::Yes) => Ok(Ok(Truth::Yes)),
                 Ok(first) => match right.get().truth(alloc, row)? {
                     Ok(second) => Ok(Ok(or(first, second))),

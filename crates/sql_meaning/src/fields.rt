@@ -29,7 +29,11 @@ pub fn table_named<'a>(schemas: &'a Schemas, name: &Name) -> Option<&'a Schema>
 }
 
 /// Adds a table's columns. After an Err some of them may be there.
-pub fn append_fields(alloc: Global, fields: &mut Fields, schema: &Schema) -> Result<(), WantOfMemory>
+pub fn append_fields(
+    alloc: Global,
+    fields: &mut Fields,
+    schema: &Schema,
+) -> Result<(), WantOfMemory>
     ensures { OnOk result (fields.new ≡ fields.old ++ table_fields schema.now) }
 {
     for column in schema.columns.as_slice() {

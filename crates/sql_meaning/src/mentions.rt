@@ -5,7 +5,9 @@ ghost use Rattle.sql_meaning.specs.Names as spec;
 
 use crate::fields::{Field, place_of};
 use rm_base::{Duplicate, Items, Name, Names, Text, WantOfMemory};
-use sql_statements::{Agg, Aggs, Expr, ExprRows, Exprs, Join, Orders, Select, Selected, Sets, Stmt};
+use sql_statements::{
+    Agg, Aggs, Expr, ExprRows, Exprs, Join, Orders, Select, Selected, Sets, Stmt,
+};
 use std::alloc::Global;
 
 /// A column as a statement names it.
@@ -228,7 +230,10 @@ pub fn of_tables(alloc: Global, statement: &Stmt) -> Result<Mentions, WantOfMemo
 {
     let mut mentions = Mentions::new(alloc);
     match statement {
-        Stmt::Insert { columns: Some(names), .. } => push_names(alloc, &mut mentions, names)?,
+        Stmt::Insert {
+            columns: Some(names),
+            ..
+        } => push_names(alloc, &mut mentions, names)?,
         Stmt::Update { sets, test, .. } => {
             push_sets(alloc, &mut mentions, sets)?;
             push_test(alloc, &mut mentions, test)?;

@@ -2,14 +2,13 @@ ghost use Rattle.std.specs.Prelude.{◌≡◌, [], IfOk, map, option_map, unwrap
 ghost use Rattle.sql_meaning.specs.Places.{placed, placed_action, placed_agg, placed_on, placed_order, placed_output, placed_set, placed_test, placed_tuple, both_tests};
 ghost use Rattle.sql_meaning.specs.Places as spec;
 
-use crate::actions::{
-    Action, OrderPlace, OrderPlaces, Output, SetPlace, SetPlaces, Total, Totals,
-};
+use crate::actions::{Action, OrderPlace, OrderPlaces, Output, SetPlace, SetPlaces, Total, Totals};
 use crate::fields::{Field, place_of};
 use crate::resolved::{Resolved, ResolvedList, ResolvedRows};
 use rm_base::{Duplicate, Name, Names, WantOfMemory};
 use sql_statements::{
-    Agg, Aggs, Expr, ExprRows, Exprs, Join, Op, OrderKey, Orders, Select, Selected, SetItem, Sets, Stmt,
+    Agg, Aggs, Expr, ExprRows, Exprs, Join, Op, OrderKey, Orders, Select, Selected, SetItem, Sets,
+    Stmt,
 };
 use sql_values::Value;
 use sqlite_items::Boxed;
@@ -240,7 +239,11 @@ fn place_order(fields: &[Field], key: &OrderKey) -> OrderPlace
     }
 }
 
-fn place_orders(alloc: Global, fields: &[Field], orders: &Orders) -> Result<OrderPlaces, WantOfMemory>
+fn place_orders(
+    alloc: Global,
+    fields: &[Field],
+    orders: &Orders,
+) -> Result<OrderPlaces, WantOfMemory>
     ensures { IfOk result (λ r. r ≡ map (placed_order fields.now) orders.now) }
 {
     let mut places = OrderPlaces::new(alloc);

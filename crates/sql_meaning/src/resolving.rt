@@ -45,17 +45,13 @@ pub fn resolve(
 }
 
 #[tactic(auto, unfolding(crate::specs::Refusals::has_right_types))]
-fn has_right_types(
-    fields: &[Field],
-    statement: &Stmt,
-    schemas: &Schemas,
-    action: &Action,
-) -> bool
+fn has_right_types(fields: &[Field], statement: &Stmt, schemas: &Schemas, action: &Action) -> bool
     requires scope { fields.now ≡ scope schemas.now statement.now }
     requires action { action.now ≡ placed_action fields.now statement.now }
     ensures { result ≡ spec.has_right_types schemas.now statement.now }
 {
-    counts_match(fields, statement) && has_right_sorts(fields, key_place(statement, schemas), action)
+    counts_match(fields, statement)
+        && has_right_sorts(fields, key_place(statement, schemas), action)
 }
 
 fn key_place(statement: &Stmt, schemas: &Schemas) -> usize

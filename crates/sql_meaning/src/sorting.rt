@@ -10,8 +10,8 @@ use crate::fields::Field;
 use crate::kinds::{is_number, is_truth, is_value, kind_of, takes};
 use crate::resolved::{Resolved, ResolvedList, ResolvedRows};
 use rm_base::Names;
-use sql_values::Sort;
 use sql_statements::{ExprRows, Stmt};
+use sql_values::Sort;
 
 /// Whether each operand has the sort of its place.
 pub fn has_right_sorts(fields: &[Field], key: usize, action: &Action) -> bool
@@ -19,9 +19,7 @@ pub fn has_right_sorts(fields: &[Field], key: usize, action: &Action) -> bool
 {
     match action {
         Action::Create | Action::Control => true,
-        Action::Insert { tuples } => {
-            all_tuples_fit(fields, tuples)
-        }
+        Action::Insert { tuples } => { all_tuples_fit(fields, tuples) }
         Action::Update { sets, test } => {
             all_sets_right(fields, key, sets) && is_condition(fields, test)
         }
@@ -37,9 +35,7 @@ pub fn counts_match(fields: &[Field], statement: &Stmt) -> bool
     ensures { result ≡ spec.counts_match fields.now statement.now }
 {
     match statement {
-        Stmt::Insert { columns, rows, .. } => {
-            all_have(rows, named_count(fields, columns))
-        }
+        Stmt::Insert { columns, rows, .. } => { all_have(rows, named_count(fields, columns)) }
         _ => true,
     }
 }
@@ -62,13 +58,18 @@ fn all_have(rows: &ExprRows, count: usize) -> bool
 fn all_tuples_fit(fields: &[Field], tuples: &ResolvedRows) -> bool
     ensures { result ≡ list_all (spec.fits_fields fields.now) tuples.now }
 {
-    tuples.as_slice().iter().all(|tuple| fits_fields(fields, tuple))
+    tuples
+        .as_slice()
+        .iter()
+        .all(|tuple| fits_fields(fields, tuple))
 }
 
 fn all_sets_right(fields: &[Field], key: usize, sets: &SetPlaces) -> bool
     ensures { result ≡ list_all (spec.sets_right fields.now key) sets.now }
 {
-    sets.as_slice().iter().all(|set| sets_right(fields, key, set))
+    sets.as_slice()
+        .iter()
+        .all(|set| sets_right(fields, key, set))
 }
 
 #[tactic(auto, unfolding(crate::specs::Refusals::suits))]
@@ -175,11 +176,17 @@ fn output_right(fields: &[Field], output: &Output) -> bool
 fn all_values(fields: &[Field], exprs: &ResolvedList) -> bool
     ensures { result ≡ list_all (suits fields.now kinds.is_value) exprs.now }
 {
-    exprs.as_slice().iter().all(|expr| suits_value(fields, expr))
+    exprs
+        .as_slice()
+        .iter()
+        .all(|expr| suits_value(fields, expr))
 }
 
 fn all_totals_right(fields: &[Field], totals: &Totals) -> bool
     ensures { result ≡ list_all (spec.totals_right fields.now) totals.now }
 {
-    totals.as_slice().iter().all(|total| totals_right(fields, total))
+    totals
+        .as_slice()
+        .iter()
+        .all(|total| totals_right(fields, total))
 }
