@@ -1,5 +1,5 @@
 use crate::{Action, Refusal, Resolved, resolve};
-use rm_base::{Duplicate, Items, Name, Names, Text};
+use rm_base::{Items, Name, Names, Text};
 use sql_statements::{Expr, Exprs, Join, Op, Orders, Select, Selected, SetItem, Sets, Stmt};
 use sql_values::{Column, Columns, Overflow, Schema, Schemas, Sort, Truth, Value};
 use sqlite_items::Boxed;
@@ -108,17 +108,15 @@ fn col_of(rt: &impl Abort, alloc: Global, table: &[u8], text: &[u8]) -> Result<E
     })
 }
 
-/// SELECT item FROM t JOIN u ON 1
+/// SELECT item FROM t JOIN u ON on
 fn select(rt: &impl Abort, alloc: Global, item: Expr, on: Expr) -> Result<Stmt, Fail> {
     let mut items = Exprs::new(alloc);
     items.push(item)?;
+    let right = name(rt, alloc, b"u")?;
     Ok(Stmt::Select(Select {
         items: Selected::Plain(items),
         left: name(rt, alloc, b"t")?,
-        join: Some(Join {
-            right: name(rt, alloc, b"u")?,
-            on,
-        }),
+        join: Some(Join { right, on }),
         test: None,
         order: Orders::new(alloc),
         limit: None,
@@ -128,8 +126,9 @@ fn select(rt: &impl Abort, alloc: Global, item: Expr, on: Expr) -> Result<Stmt, 
 /// UPDATE t SET column = value
 fn update(rt: &impl Abort, alloc: Global, set: &[u8], value: Expr) -> Result<Stmt, Fail> {
     let mut sets = Sets::new(alloc);
+    let name_of_set = name(rt, alloc, set)?;
     sets.push(SetItem {
-        name: name(rt, alloc, set)?,
+        name: name_of_set,
         value,
     })?;
     Ok(Stmt::Update {
@@ -143,7 +142,7 @@ fn null_expr() -> Expr {
     Expr::Lit(Value::Null)
 }
 
-/// INSERT INTO t (v) VALUES (value)
+/// INSERT INTO t (v) VALUES (values)
 fn insert(rt: &impl Abort, alloc: Global, values: Exprs) -> Result<Stmt, Fail> {
     let mut names = Names::new(alloc);
     names.push(name(rt, alloc, b"v")?)?;
@@ -162,6 +161,16 @@ fn one(alloc: Global, value: Expr) -> Result<Exprs, Fail> {
     Ok(values)
 }
 
+/// The tables t and u, or t alone.
+fn tables(rt: &impl Abort, alloc: Global, both: bool) -> Result<Schemas, Fail> {
+    let mut schemas = Schemas::new(alloc);
+    schemas.push(schema(rt, alloc, b"t")?)?;
+    if both {
+        schemas.push(schema(rt, alloc, b"u")?)?;
+    }
+    Ok(schemas)
+}
+
 /// The answer in a few letters: the column that is unknown, T for a wrong type, + for none.
 fn shown(alloc: Global, statement: &Stmt, schemas: &Schemas) -> Result<Text, Fail> {
     let word: &[u8] = match resolve(alloc, statement, schemas)? {
@@ -174,85 +183,85 @@ fn shown(alloc: Global, statement: &Stmt, schemas: &Schemas) -> Result<Text, Fai
     Ok(Text::from_vec(Vec::from_slice(alloc, word)?))
 }
 
-#[test]
-fn refusals_by_their_causes(rt: HostRuntime) -> Result<(), Fail> {
-    let alloc = rt.alloc();
-    let mut schemas = Schemas::new(alloc);
-    schemas.push(schema(&rt, alloc, b"t")?)?;
-    let missing = select(&rt, alloc, null_expr(), null_expr())?;
-    assert_eq!(rt;
-        shown(alloc, &missing, &schemas)?.as_slice(),
-        b"N".as_slice()
-    );
-    schemas.push(schema(&rt, alloc, b"u")?)?;
-    let cases = [
-        (
-            select(&rt, alloc, col_of(&rt, alloc, b"u", b"k")?, null_expr())?,
-            b"+".as_slice(),
-        ),
-        (
-            select(&rt, alloc, null_expr(), col(&rt, alloc, b"k")?)?,
-            b"k",
-        ),
-        (
-            select(
-                &rt,
-                alloc,
-                col_of(&rt, alloc, b"w", b"k")?,
-                col(&rt, alloc, b"z")?,
-            )?,
-            b"w.k",
-        ),
-        (
-            select(&rt, alloc, null_expr(), col_of(&rt, alloc, b"t", b"k")?)?,
-            b"T",
-        ),
-        (update(&rt, alloc, b"v", null_expr())?, b"+"),
-        (update(&rt, alloc, b"v", col(&rt, alloc, b"k")?)?, b"T"),
-        (update(&rt, alloc, b"k", null_expr())?, b"T"),
-        (update(&rt, alloc, b"z", col(&rt, alloc, b"y")?)?, b"z"),
-        (insert(&rt, alloc, one(alloc, null_expr())?)?, b"+"),
-        (insert(&rt, alloc, Exprs::new(alloc))?, b"T"),
-        (
-            insert(&rt, alloc, one(alloc, col(&rt, alloc, b"v")?)?)?,
-            b"v",
-        ),
-        (
-            Stmt::Create {
-                schema: schema(&rt, alloc, b"u")?,
-            },
-            b"E",
-        ),
-        (Stmt::Begin, b"+"),
-    ];
-    for (statement, want) in cases {
-        assert_eq!(rt; shown(alloc, &statement, &schemas)?.as_slice(), want);
-    }
+fn expect(rt: &impl Abort, alloc: Global, statement: &Stmt, want: &[u8]) -> Result<(), Fail> {
+    let schemas = tables(rt, alloc, true)?;
+    assert_eq!(rt; shown(alloc, statement, &schemas)?.as_slice(), want);
     Ok(())
+}
+
+fn select_of(
+    rt: &impl Abort,
+    alloc: Global,
+    table: &[u8],
+    column: &[u8],
+    want: &[u8],
+) -> Result<(), Fail> {
+    let item = col_of(rt, alloc, table, column)?;
+    let statement = select(rt, alloc, item, null_expr())?;
+    expect(rt, alloc, &statement, want)
+}
+
+fn select_on(rt: &impl Abort, alloc: Global, on: Expr, want: &[u8]) -> Result<(), Fail> {
+    let statement = select(rt, alloc, null_expr(), on)?;
+    expect(rt, alloc, &statement, want)
+}
+
+fn update_of(
+    rt: &impl Abort,
+    alloc: Global,
+    set: &[u8],
+    value: Expr,
+    want: &[u8],
+) -> Result<(), Fail> {
+    let statement = update(rt, alloc, set, value)?;
+    expect(rt, alloc, &statement, want)
+}
+
+#[test]
+fn refusals_of_a_select(rt: HostRuntime) -> Result<(), Fail> {
+    let alloc = rt.alloc();
+    let missing = select(&rt, alloc, null_expr(), null_expr())?;
+    let alone = tables(&rt, alloc, false)?;
+    assert_eq!(rt; shown(alloc, &missing, &alone)?.as_slice(), b"N".as_slice());
+    select_of(&rt, alloc, b"u", b"k", b"+")?;
+    select_of(&rt, alloc, b"w", b"k", b"w.k")?;
+    select_on(&rt, alloc, col(&rt, alloc, b"k")?, b"k")?;
+    select_on(&rt, alloc, col_of(&rt, alloc, b"t", b"k")?, b"T")
+}
+
+#[test]
+fn refusals_of_writes(rt: HostRuntime) -> Result<(), Fail> {
+    let alloc = rt.alloc();
+    update_of(&rt, alloc, b"v", null_expr(), b"+")?;
+    update_of(&rt, alloc, b"v", col(&rt, alloc, b"k")?, b"T")?;
+    update_of(&rt, alloc, b"k", null_expr(), b"T")?;
+    update_of(&rt, alloc, b"z", col(&rt, alloc, b"y")?, b"z")?;
+    let named = insert(&rt, alloc, one(alloc, null_expr())?)?;
+    expect(&rt, alloc, &named, b"+")?;
+    let short = insert(&rt, alloc, Exprs::new(alloc))?;
+    expect(&rt, alloc, &short, b"T")
 }
 
 #[test]
 fn columns_become_places(rt: HostRuntime) -> Result<(), Fail> {
     let alloc = rt.alloc();
-    let mut schemas = Schemas::new(alloc);
-    schemas.push(schema(&rt, alloc, b"t")?)?;
-    schemas.push(schema(&rt, alloc, b"u")?)?;
     let on = col_of(&rt, alloc, b"u", b"v")?;
-    let on = Expr::IsNull {
-        arg: Boxed::new(alloc, on)?,
-        not: false,
-    };
-    let statement = select(&rt, alloc, null_expr(), on)?;
+    let arg = Boxed::new(alloc, on)?;
+    let statement = select(&rt, alloc, null_expr(), Expr::IsNull { arg, not: false })?;
+    let schemas = tables(&rt, alloc, true)?;
     let resolved = resolve(alloc, &statement, &schemas)?;
-    let Ok(
-        Action::Select {
-            test: Some(Resolved::IsNull { arg, .. }),
-            ..
-        },
-    ) = &resolved
-    else {
-        return Err("no test")?;
-    };
-    assert!(rt; matches!(arg.get(), Resolved::Cell(3)));
+    assert!(rt; tests_the_fourth_cell(&resolved));
     Ok(())
+}
+
+fn tests_the_fourth_cell(resolved: &Result<Action, Refusal>) -> bool {
+    match resolved {
+        Ok(
+            Action::Select {
+                test: Some(Resolved::IsNull { arg, .. }),
+                ..
+            },
+        ) => { matches!(arg.get(), Resolved::Cell(3)) }
+        _ => false,
+    }
 }
