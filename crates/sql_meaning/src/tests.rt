@@ -230,16 +230,26 @@ fn refusals_of_a_select(rt: HostRuntime) -> Result<(), Fail> {
 }
 
 #[test]
-fn refusals_of_writes(rt: HostRuntime) -> Result<(), Fail> {
+fn refusals_of_an_update(rt: HostRuntime) -> Result<(), Fail> {
     let alloc = rt.alloc();
-    update_of(&rt, alloc, b"v", null_expr(), b"+")?;
-    update_of(&rt, alloc, b"v", col(&rt, alloc, b"k")?, b"T")?;
+    let column = col(&rt, alloc, b"k")?;
+    update_of(&rt, alloc, b"v", column, b"T")?;
     update_of(&rt, alloc, b"k", null_expr(), b"T")?;
-    update_of(&rt, alloc, b"z", col(&rt, alloc, b"y")?, b"z")?;
-    let named = insert(&rt, alloc, one(alloc, null_expr())?)?;
-    expect(&rt, alloc, &named, b"+")?;
-    let short = insert(&rt, alloc, Exprs::new(alloc))?;
-    expect(&rt, alloc, &short, b"T")
+    update_of(&rt, alloc, b"z", null_expr(), b"z")?;
+    update_of(&rt, alloc, b"v", null_expr(), b"+")
+}
+
+fn insert_of(rt: &impl Abort, alloc: Global, values: Exprs, want: &[u8]) -> Result<(), Fail> {
+    let statement = insert(rt, alloc, values)?;
+    expect(rt, alloc, &statement, want)
+}
+
+#[test]
+fn refusals_of_an_insert(rt: HostRuntime) -> Result<(), Fail> {
+    let alloc = rt.alloc();
+    let named = one(alloc, null_expr())?;
+    insert_of(&rt, alloc, named, b"+")?;
+    insert_of(&rt, alloc, Exprs::new(alloc), b"T")
 }
 
 #[test]
