@@ -1,0 +1,8 @@
+//! Plans that change a tree: an item is put in, replaced, marked or taken out, or a page is split.
+#![tactic(auto)]
+
+mod counting;
+mod halves;
+mod places;
+mod room;
+mod spelling;
