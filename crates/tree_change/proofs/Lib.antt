@@ -1,1 +1,5 @@
 pub mod PlaceLaws
+pub mod ListLaws
+pub mod PartLaws
+pub mod EntryLaws
+pub mod SpotLaws
