@@ -6,3 +6,4 @@ pub mod SpotLaws
 pub mod SortLaws
 pub mod EffectLaws
 pub mod RowLaws
+pub mod WayLaws
