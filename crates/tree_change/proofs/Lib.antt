@@ -7,3 +7,5 @@ pub mod SortLaws
 pub mod EffectLaws
 pub mod RowLaws
 pub mod WayLaws
+pub mod NodeLaws
+pub mod ChangeLaws
