@@ -21,7 +21,7 @@ use Rattle.redo_record.specs.declared.redo.Record.{Record}
 use Rattle.redo_record.specs.declared.redo.Record.TheVariants.{Make, Patch, InsertSlot, RemoveSlot, Cut, Link}
 use Rattle.redo_record.specs.declared.plans.Plan.{Plan}
 use Rattle.redo_record.specs.Effect.{page_of, Applies, effect, step, after_records, RecordsApply}
-use Rattle.bplus_tree.specs.Tree.{IsLeafPage, Tree, Stands, Linked, leaves_of}
+use Rattle.bplus_tree.specs.Tree.{NotBelow, Below, IsLeafPage, Tree, Stands, Linked, leaves_of}
 use Rattle.tree_change.specs.Way.{IsWayTo}
 use Rattle.tree_change.specs.Pages.{HasRows}
 use Rattle.tree_change.specs.Places.{before, behind, lesser, with_key, HasKey, leaf_on}
@@ -131,3 +131,248 @@ leaf_changed key path w i a lsn rs change rows leaf within =
           (linked_same w.pages others nexts (leaves_of w.pages w.tree.nodes) w.tree.linked);
       apart = w.tree.apart;
     }
+
+-- ---- the page of the change
+
+own_leaf : (key : List ℕ) (path : List Image) (w : IsWayTo key path) (page : ℕ) → (w.pages page).page ≡ page → (leaf_on path).page ≡ (w.pages page).page → leaf_on path ≡ w.pages page
+own_leaf key path w page own e =
+    let a = at_leaf key path w in
+    let number : (leaf_on path).page ≡ a.page = ap (λ (im : Image). im.page) a.is ∙ a.spot.part.0.number in
+    let same : page ≡ a.page = sym own ∙ sym e ∙ number in
+    a.is ∙ ap w.pages (sym same)
+
+leaf_number : (key : List ℕ) (path : List Image) (w : IsWayTo key path) (a : At key path w (length path - 1) 0) → (w.pages a.page).page ≡ a.page
+leaf_number key path w a = a.spot.part.0.number
+
+pub free_of_leaf : (im : Image) → im.kind ≡ Leaf → free_of im ≡ PAGE_BYTES - HEADER_BYTES - used im.items
+free_of_leaf im e = let s : is_slotted im.kind ≡ true = ap is_slotted e in rw s refl
+
+pub size_is : (item : LeafItem) → length (leaf_bytes item) + 2 ≡ size_of item
+size_is item =
+    let key = item.key in
+    simp (length-append, length-field) (omega arith)
+
+some_bytes : (item : LeafItem) → 1 ≤ length (leaf_bytes item)
+some_bytes item = omega arith
+
+-- ---- an item put in
+
+pub record IsPlace (key : List ℕ) (items : List (List ℕ)) (n : ℕ) : Type 0 where
+  pub within : n ≤ length items
+  pub is : lesser key items ≡ n
+  pub front : before key items ≡ take n items
+  pub back : behind key items ≡ drop n items
+  pub none : with_key key items ≡ []
+
+pub absent_place : (key : List ℕ) (im : Image) → HasRows im → ¬ HasKey key im → (n : ℕ) × IsPlace key im.items n
+absent_place key im h no_key =
+    let long = as_many im.items in
+    elim (placed (keys_of im.items) key h.ascend) [
+      | inl found ↦ absurd (no_key found)
+      | inr p ↦ (
+          p.0,
+          record {
+            within = (let le = p.1 in omega (arith, long, le));
+            is = lesser_absent key im.items p.0 p.1 p.2 p.3;
+            front = absent_before key im.items p.0 (let le = p.1 in omega (arith, long, le)) p.2 p.3;
+            back = absent_behind key im.items p.0 p.2 p.3;
+            none = with_key_absent key im.items p.0 p.2 p.3;
+          },
+        )
+    ]
+
+pub inserted_is : (key item : List ℕ) (items : List (List ℕ)) (n : ℕ) → IsPlace key items n → insert items (lesser key items) item ≡ with_item key item items
+inserted_is key item items n p =
+    ap (λ (k : ℕ). insert items k item) p.is
+    ∙ ap (λ (l : List (List ℕ)). l ++ (item ∷ drop n items)) (sym p.front) ∙ ap (λ (l : List (List ℕ)). before key items ++ (item ∷ l)) (sym p.back)
+
+insert_can : (im : Image) (item : LeafItem) → HasRows im → ¬ HasKey item.key im → size_of item ≤ room_for item.key im
+    → CanInsert im (lesser item.key im.items) (leaf_bytes item)
+insert_can im item h no_key room =
+    let p = (absent_place item.key im h no_key) in
+    let none = ap used p.1.none in
+    let size = size_is item in
+    record {
+      slotted = ap is_slotted h.kind;
+      some = some_bytes item;
+      place = (let is = p.1.is in let within = p.1.within in omega (arith, is, within));
+      room = omega (arith, none, size, room);
+    }
+
+insert_leaf : (im : Image) (page lsn : ℕ) (low high : Option (List ℕ)) (items : List (List ℕ)) (item : LeafItem)
+    → IsLeafPage im page low high items → IsLeaf item → ¬ HasKey item.key im → HasRows im → NotBelow low item.key → Below high item.key
+    → IsLeafPage (after_records lsn (insert_plan im item).records im) page low high (with_item item.key (leaf_bytes item) items)
+insert_leaf im page lsn low high items item h is no_key rows f b =
+    let p = (absent_place item.key im rows no_key) in
+    let r : Record = InsertSlot im.page (lesser item.key im.items) (leaf_bytes item) in
+    let done : IsLeafPage (inserted im (lesser item.key im.items) (leaf_bytes item) lsn) page low high (with_item item.key (leaf_bytes item) items) =
+    leaf_with im (inserted im (lesser item.key im.items) (leaf_bytes item) lsn) page low high items item.key (leaf_bytes item) h refl refl
+        (inserted_is item.key (leaf_bytes item) im.items p.0 p.1) (leaf_holds item is) (key_of_leaf item) f b in
+    subst (λ (om : Image). IsLeafPage om page low high (with_item item.key (leaf_bytes item) items)) (sym (step_own r lsn im refl)) done
+
+insert_rows : (im : Image) (item : LeafItem) (page : ℕ) → im.page ≡ page → AllByRecursion (ChangesItems page) (insert_plan im item).records
+insert_rows im item page e = (e, tt)
+
+pub insert_carries : (path : List Image) (item : LeafItem) → IsLeaf item → HasRows (leaf_on path) → ¬ HasKey item.key (leaf_on path)
+    → size_of item ≤ room_for item.key (leaf_on path) → Carries item.key path (insert_plan (leaf_on path) item) (with_item item.key (leaf_bytes item))
+insert_carries path item is rows no_key room = record {
+  only = only_page (leaf_on path).page (insert_plan (leaf_on path) item).records (insert_rows (leaf_on path) item (leaf_on path).page refl);
+  applies = λ w lsn page own.
+      apply_to_all (leaf_on path).page lsn (insert_plan (leaf_on path) item).records (w.pages page) (insert_rows (leaf_on path) item (leaf_on path).page refl)
+      (λ e. subst (λ (im : Image). RecordsApply lsn (insert_plan (leaf_on path) item).records im) (own_leaf item.key path w page own e)
+      ((λ _. insert_can (leaf_on path) item rows no_key room), tt));
+  stands = λ w lsn.
+      let a = at_leaf item.key path w in
+      let im = w.pages a.page in
+      subst (λ (l : Image). Tree (pages_after lsn (insert_plan l item).records w.pages) w.root (with_item item.key (leaf_bytes item) w.items)) (sym a.is)
+      (leaf_changed item.key path w (length path - 1) a lsn (insert_plan im item).records (with_item item.key (leaf_bytes item))
+      (insert_rows im item a.page a.spot.part.0.number)
+      (insert_leaf im a.page lsn a.spot.lo a.spot.hi a.spot.mid item a.spot.part.0 is (subst (λ (l : Image). ¬ HasKey item.key l) a.is no_key) (subst HasRows a.is rows) a.spot.low_end a.spot.high_end)
+      (with_within item.key (leaf_bytes item) a.spot.ahead a.spot.mid a.spot.after a.spot.lesser a.spot.greater));
+}
+
+-- ---- an item taken out, or put in the place of another
+
+pub record IsFoundAt (key : List ℕ) (items : List (List ℕ)) (i : ℕ) : Type 0 where
+  pub within : i < length items
+  pub is : lesser key items ≡ i
+  pub front : before key items ≡ take i items
+  pub back : behind key items ≡ drop (suc i) items
+  pub one : with_key key items ≡ get_or items i [] ∷ []
+
+pub found_place : (key : List ℕ) (im : Image) → HasRows im → HasKey key im → (i : ℕ) × IsFoundAt key im.items i
+found_place key im h found =
+    let w = with_key_found key im.items found.0 h.ascend found.1 in
+    let one : found.0 + 1 ≡ suc found.0 = omega arith in (
+      found.0,
+      record {
+        within = w.0;
+        is = lesser_found key im.items found.0 h.ascend found.1;
+        front = found_before key im.items found.0 h.ascend found.1;
+        back = found_behind key im.items found.0 h.ascend found.1 ∙ ap (λ (k : ℕ). drop k im.items) one;
+        one = w.1;
+      },
+    )
+
+removed_is : (key : List ℕ) (items : List (List ℕ)) (i : ℕ) → IsFoundAt key items i → remove items (lesser key items) ≡ without_item key items
+removed_is key items i p =
+    ap (λ (k : ℕ). remove items k) p.is
+    ∙ ap (λ (l : List (List ℕ)). l ++ drop (suc i) items) (sym p.front) ∙ ap (λ (l : List (List ℕ)). before key items ++ l) (sym p.back)
+
+put_back : (items : List (List ℕ)) (i : ℕ) (item : List ℕ) → i < length items → insert (remove items i) i item ≡ take i items ++ (item ∷ drop (suc i) items)
+put_back items i item h =
+    let long : length (take i items) ≡ i = length-take-le i items (omega arith) in
+    ap (λ (l : List (List ℕ)). l ++ (item ∷ drop i (remove items i))) (take_at (take i items) (drop (suc i) items) i long)
+    ∙ ap (λ (l : List (List ℕ)). take i items ++ (item ∷ l)) (drop_at (take i items) (drop (suc i) items) i long)
+
+replaced_is : (key item : List ℕ) (items : List (List ℕ)) (i : ℕ) → IsFoundAt key items i
+    → insert (remove items (lesser key items)) (lesser key items) item ≡ with_item key item items
+replaced_is key item items i p =
+    ap (λ (k : ℕ). insert (remove items k) k item) p.is
+    ∙ put_back items i item p.within
+    ∙ ap (λ (l : List (List ℕ)). l ++ (item ∷ drop (suc i) items)) (sym p.front) ∙ ap (λ (l : List (List ℕ)). before key items ++ (item ∷ l)) (sym p.back)
+
+remove_can : (im : Image) (key : List ℕ) → HasRows im → HasKey key im → CanRemove im (lesser key im.items)
+remove_can im key h found =
+    let p = found_place key im h found in
+    record { slotted = ap is_slotted h.kind; there = (let is = p.1.is in let within = p.1.within in omega (arith, is, within)) }
+
+remove_leaf : (im : Image) (page lsn : ℕ) (low high : Option (List ℕ)) (items : List (List ℕ)) (key : List ℕ)
+    → IsLeafPage im page low high items → HasKey key im → HasRows im
+    → IsLeafPage (after_records lsn (remove_plan im key).records im) page low high (without_item key items)
+remove_leaf im page lsn low high items key h found rows =
+    let p = (found_place key im rows found) in
+    let r : Record = RemoveSlot im.page (lesser key im.items) in
+    let done : IsLeafPage (removed im (lesser key im.items) lsn) page low high (without_item key items) =
+    leaf_without im (removed im (lesser key im.items) lsn) page low high items key h refl refl (removed_is key im.items p.0 p.1) in
+    subst (λ (om : Image). IsLeafPage om page low high (without_item key items)) (sym (step_own r lsn im refl)) done
+
+remove_rows : (im : Image) (key : List ℕ) (page : ℕ) → im.page ≡ page → AllByRecursion (ChangesItems page) (remove_plan im key).records
+remove_rows im key page e = (e, tt)
+
+pub remove_carries : (path : List Image) (key : List ℕ) → HasRows (leaf_on path) → HasKey key (leaf_on path) → Carries key path (remove_plan (leaf_on path) key) (without_item key)
+remove_carries path key rows found = record {
+  only = only_page (leaf_on path).page (remove_plan (leaf_on path) key).records (remove_rows (leaf_on path) key (leaf_on path).page refl);
+  applies = λ w lsn page own.
+      apply_to_all (leaf_on path).page lsn (remove_plan (leaf_on path) key).records (w.pages page) (remove_rows (leaf_on path) key (leaf_on path).page refl)
+      (λ e. subst (λ (im : Image). RecordsApply lsn (remove_plan (leaf_on path) key).records im) (own_leaf key path w page own e)
+      ((λ _. remove_can (leaf_on path) key rows found), tt));
+  stands = λ w lsn.
+      let a = at_leaf key path w in
+      let im = w.pages a.page in
+      subst (λ (l : Image). Tree (pages_after lsn (remove_plan l key).records w.pages) w.root (without_item key w.items)) (sym a.is)
+      (leaf_changed key path w (length path - 1) a lsn (remove_plan im key).records (without_item key)
+      (remove_rows im key a.page a.spot.part.0.number)
+      (remove_leaf im a.page lsn a.spot.lo a.spot.hi a.spot.mid key a.spot.part.0 (subst (HasKey key) a.is found) (subst HasRows a.is rows))
+      (without_within key a.spot.ahead a.spot.mid a.spot.after a.spot.lesser a.spot.greater));
+}
+
+update_rows : (im : Image) (item : LeafItem) (page : ℕ) → im.page ≡ page → AllByRecursion (ChangesItems page) (update_plan im item).records
+update_rows im item page e = (e, (e, tt))
+
+room_again : (im : Image) (item : LeafItem) (lsn : ℕ) → HasRows im → HasKey item.key im → size_of item ≤ room_for item.key im → used im.items ≤ PAGE_BYTES - HEADER_BYTES
+    → CanInsert (removed im (lesser item.key im.items) lsn) (lesser item.key im.items) (leaf_bytes item)
+room_again im item lsn h found room fits =
+    let p = found_place item.key im h found in
+    let i : ℕ = p.0 in
+    let is : lesser item.key im.items ≡ i = p.1.is in
+    let free = free_of_leaf im h.kind in
+    let free' = free_of_leaf (removed im (lesser item.key im.items) lsn) h.kind in
+    let one = ap used p.1.one in
+    let left = sum_by-remove (λ (x : List ℕ). length x + 2) im.items i [] p.1.within in
+    let less = length-remove im.items i p.1.within in
+    let at_i : remove im.items (lesser item.key im.items) ≡ remove im.items i = ap (remove im.items) is in
+    let at_used = ap used at_i in
+    let at_length = ap length at_i in
+    let size = size_is item in
+    record {
+      slotted = ap is_slotted h.kind;
+      some = some_bytes item;
+      place = (let within = p.1.within in omega (arith, is, within, less, at_length));
+      room = omega (arith, free, free', one, left, at_used, size, room, fits);
+    }
+
+update_apply : (im : Image) (item : LeafItem) (lsn : ℕ) → HasRows im → HasKey item.key im → size_of item ≤ room_for item.key im → used im.items ≤ PAGE_BYTES - HEADER_BYTES
+    → RecordsApply lsn (update_plan im item).records im
+update_apply im item lsn rows found room fits =
+    let place = lesser item.key im.items in
+    let first : Record = RemoveSlot im.page place in
+    let second : Record = InsertSlot im.page place (leaf_bytes item) in (
+      (λ _. remove_can im item.key rows found),
+      subst (λ (om : Image). RecordsApply lsn (second ∷ []) om) (sym (step_own first lsn im refl)) ((λ _. room_again im item lsn rows found room fits), tt),
+    )
+
+update_leaf : (im : Image) (page lsn : ℕ) (low high : Option (List ℕ)) (items : List (List ℕ)) (item : LeafItem)
+    → IsLeafPage im page low high items → IsLeaf item → HasKey item.key im → HasRows im → NotBelow low item.key → Below high item.key
+    → IsLeafPage (after_records lsn (update_plan im item).records im) page low high (with_item item.key (leaf_bytes item) items)
+update_leaf im page lsn low high items item h is found rows f b =
+    let p = (found_place item.key im rows found) in
+    let place = lesser item.key im.items in
+    let first : Record = RemoveSlot im.page place in
+    let second : Record = InsertSlot im.page place (leaf_bytes item) in
+    let om = inserted (removed im place lsn) place (leaf_bytes item) lsn in
+    let done : IsLeafPage om page low high (with_item item.key (leaf_bytes item) items) =
+    leaf_with im om page low high items item.key (leaf_bytes item) h refl refl
+        (replaced_is item.key (leaf_bytes item) im.items p.0 p.1) (leaf_holds item is) (key_of_leaf item) f b in
+    let one : after_records lsn (update_plan im item).records im ≡ step lsn (removed im place lsn) second =
+    ap (λ (i : Image). step lsn i second) (step_own first lsn im refl) in
+    subst (λ (i : Image). IsLeafPage i page low high (with_item item.key (leaf_bytes item) items)) (sym (one ∙ step_own second lsn (removed im place lsn) refl)) done
+
+pub update_carries : (path : List Image) (item : LeafItem) → IsLeaf item → HasRows (leaf_on path) → HasKey item.key (leaf_on path)
+    → size_of item ≤ room_for item.key (leaf_on path) → used (leaf_on path).items ≤ PAGE_BYTES - HEADER_BYTES
+    → Carries item.key path (update_plan (leaf_on path) item) (with_item item.key (leaf_bytes item))
+update_carries path item is rows found room fits = record {
+  only = only_page (leaf_on path).page (update_plan (leaf_on path) item).records (update_rows (leaf_on path) item (leaf_on path).page refl);
+  applies = λ w lsn page own.
+      apply_to_all (leaf_on path).page lsn (update_plan (leaf_on path) item).records (w.pages page) (update_rows (leaf_on path) item (leaf_on path).page refl)
+      (λ e. subst (λ (im : Image). RecordsApply lsn (update_plan (leaf_on path) item).records im) (own_leaf item.key path w page own e)
+      (update_apply (leaf_on path) item lsn rows found room fits));
+  stands = λ w lsn.
+      let a = at_leaf item.key path w in
+      let im = w.pages a.page in
+      subst (λ (l : Image). Tree (pages_after lsn (update_plan l item).records w.pages) w.root (with_item item.key (leaf_bytes item) w.items)) (sym a.is)
+      (leaf_changed item.key path w (length path - 1) a lsn (update_plan im item).records (with_item item.key (leaf_bytes item))
+      (update_rows im item a.page a.spot.part.0.number)
+      (update_leaf im a.page lsn a.spot.lo a.spot.hi a.spot.mid item a.spot.part.0 is (subst (HasKey item.key) a.is found) (subst HasRows a.is rows) a.spot.low_end a.spot.high_end)
+      (with_within item.key (leaf_bytes item) a.spot.ahead a.spot.mid a.spot.after a.spot.lesser a.spot.greater));
+}

@@ -9,3 +9,4 @@ pub mod RowLaws
 pub mod WayLaws
 pub mod NodeLaws
 pub mod ChangeLaws
+pub mod AnswerLaws

@@ -1,8 +1,11 @@
 //! Plans that change a tree: an item is put in, replaced, marked or taken out, or a page is split.
 #![tactic(auto)]
 
+mod changing;
 mod counting;
 mod halves;
 mod places;
 mod room;
 mod spelling;
+
+pub use changing::{plan_insert, plan_mark, plan_remove, plan_update};

@@ -1,12 +1,12 @@
 //! Which pages have room for a change.
-ghost use Rattle.std.specs.Prelude.{◌≡◌, ◌≤◌, ◌<◌, ◌+◌, length};
+ghost use Rattle.std.specs.Prelude.{◌≡◌, ◌≤◌, ◌-◌, length};
 ghost use Rattle.page_image.specs.Image.{used};
 ghost use Rattle.page_view.specs.Leaf.{IsLeaf};
 ghost use Rattle.tree_change.specs.Places.{with_key};
 ghost use Rattle.tree_change.specs.Room as spec;
 ghost use Rattle.tree_change.specs.Pages.{HasRows, IsTreePage};
 
-use page_image::{Kind, Page};
+use page_image::{HEADER_BYTES, Kind, PAGE_BYTES, Page};
 use page_view::{LEAF_OVERHEAD, LeafItem};
 use crate::places::found_in;
 
@@ -52,4 +52,11 @@ pub(crate) fn lacks_room(page: &Page, item: &LeafItem) -> bool
         return page.free() < INNER_ROOM;
     }
     room_for(page, item.key.as_slice()) < size_of(item)
+}
+
+/// The items of a page fit it. It does nothing when it is run.
+pub(crate) fn items_fit(page: &Page)
+    ensures { used page.now.items ≤ PAGE_BYTES - HEADER_BYTES }
+{
+    let _bytes = page.bytes();
 }

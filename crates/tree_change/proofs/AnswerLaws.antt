@@ -1,0 +1,10 @@
+-- What holds of the one value that an answer has, where it has one.
+use Rattle.std.proofs.Common.{◌≡◌, Result, Ok, Err, refl, sym, subst}
+use Rattle.std.specs.Prelude.{◌↔◌, IsOk, IfOk}
+
+pub when_planned : {A E F : Type 0} (Room : Type 0) (q : A) (P : A → Type 0) (r : Result (Result A E) F)
+    → IfOk r (λ answer. IsOk answer ↔ Room) → IfOk r (λ answer. IfOk answer (λ plan. plan ≡ q)) → (Room → P q)
+    → IfOk r (λ answer. IfOk answer P)
+when_planned Room q P (Ok (Ok plan)) room is then = subst P (sym is) (then (room.0 refl))
+when_planned Room q P (Ok (Err e)) room is then = tt
+when_planned Room q P (Err e) room is then = tt
