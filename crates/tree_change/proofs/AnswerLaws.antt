@@ -1,6 +1,6 @@
 -- What holds of the one value that an answer has, where it has one.
 use Rattle.std.proofs.Common.{◌≡◌, Result, Ok, Err, refl, sym, subst}
-use Rattle.std.specs.Prelude.{◌↔◌, IsOk, IfOk}
+use Rattle.std.specs.Prelude.{◌↔◌, IsOk, IfOk, OnOk}
 
 pub when_planned : {A E F : Type 0} (Room : Type 0) (q : A) (P : A → Type 0) (r : Result (Result A E) F)
     → IfOk r (λ answer. IsOk answer ↔ Room) → IfOk r (λ answer. IfOk answer (λ plan. plan ≡ q)) → (Room → P q)
@@ -8,3 +8,7 @@ pub when_planned : {A E F : Type 0} (Room : Type 0) (q : A) (P : A → Type 0) (
 when_planned Room q P (Ok (Ok plan)) room is then = subst P (sym is) (then (room.0 refl))
 when_planned Room q P (Ok (Err e)) room is then = tt
 when_planned Room q P (Err e) room is then = tt
+
+pub on_ok : {A E : Type 0} (P Q : Type 0) (r : Result A E) → OnOk r P → (P → Q) → OnOk r Q
+on_ok P Q (Ok x) h f = f h
+on_ok P Q (Err e) h f = h

@@ -10,3 +10,6 @@ pub mod WayLaws
 pub mod NodeLaws
 pub mod ChangeLaws
 pub mod AnswerLaws
+pub mod CountLaws
+pub mod HalfLaws
+pub mod HeavyLaws

@@ -1,9 +1,11 @@
 -- The plans that split a page.
 use Rattle.std.specs.Prelude.{◌≡◌, ◌≤◌, ◌<◌, ◌+◌, ◌==◌, ℕ, Bool, true, false, List, [], ◌∷◌, ◌++◌, length, take, drop, slice_index, slice_index_or, if◌then◌else◌}
+use Rattle.std.specs.List.{AllByRecursion}
 use Rattle.rm_base.specs.Fields.{field, number}
 use Rattle.page_image.specs.declared.kind.Kind.TheVariants.{Inner}
 use Rattle.page_image.specs.Image.{Image, is_inner, used}
 use Rattle.page_view.specs.declared.leaf.LeafItem.{LeafItem}
+use Rattle.page_view.specs.declared.leaf.TheConstants.{LARGEST_LEAF}
 use Rattle.page_view.specs.Inner.{inner_bytes}
 use Rattle.page_view.specs.Keys.{key_in}
 use Rattle.redo_record.specs.declared.redo.Record.{Record}
@@ -27,6 +29,17 @@ pub record IsSplitPlace (items : List (List ℕ)) (at : ℕ) : Type 0 where
   pub within : at < length items
   pub enough : HALF_BYTES ≤ used (take at items)
   pub least : (i : ℕ) → i < at → used (take i items) < HALF_BYTES
+
+-- an item with a key of at most 255 bytes, no larger than a leaf's largest
+pub record IsSmall (item : List ℕ) : Type 0 where
+  pub key : 1 + slice_index item 0 ≤ length item
+  pub short_key : slice_index item 0 ≤ 255
+  pub short : length item ≤ LARGEST_LEAF
+
+-- small items that take so many bytes that each half has one
+pub record IsHeavy (items : List (List ℕ)) : Type 0 where
+  pub small : AllByRecursion IsSmall items
+  pub enough : HALF_BYTES + LARGEST_LEAF + 2 ≤ used items
 
 -- the number of pages that a meta page counts
 abbrev pub count_of : Image → ℕ
@@ -69,11 +82,20 @@ counts meta n = Patch meta.page COUNT_AT (field 4 n)
 abbrev pub entry_of : List ℕ → ℕ → List ℕ
 entry_of key child = inner_bytes (record { key = key; child = child })
 
+-- a plan of a split
+abbrev pub split_of : List ℕ → List ℕ → List Record → Plan
+split_of pages made records = record { kind = Split; pages = pages; made = made; records = records }
+
+-- the new page of a split is made, with the right half, and is linked on
+abbrev pub made_right : Image → ℕ → ℕ → List Record
+made_right page at new =
+    Make new page.kind page.level ∷ (inserts new 0 (right_half page at) ++ linked_on new page.next)
+
 -- the right half moves to the page that the meta page counts next, and the parent gets an entry for it behind the one of the page
 abbrev pub split_records : List ℕ → Image → Image → ℕ → Image → List Record
 split_records key parent page at meta =
     let new = count_of meta in
-    (Make new page.kind page.level ∷ (inserts new 0 (right_half page at) ++ linked_on new page.next))
+    made_right page at new
     ++ (linked_to page page.page new
     ++ (Cut page.page at
     ∷ InsertSlot parent.page (not_greater key parent.items) (entry_of (separator page at) new)
@@ -83,37 +105,36 @@ split_records key parent page at meta =
 abbrev pub split_plan : List ℕ → Image → Image → ℕ → Image → Plan
 split_plan key parent page at meta =
     let new = count_of meta in
-    record {
-      kind = Split;
-      pages = parent.page ∷ page.page ∷ new ∷ meta.page ∷ [];
-      made = new ∷ [];
-      records = split_records key parent page at meta;
-    }
+    split_of (parent.page ∷ page.page ∷ new ∷ meta.page ∷ []) (new ∷ []) (split_records key parent page at meta)
+
+-- the two pages of a root split are made, with the halves
+abbrev pub made_halves : Image → ℕ → ℕ → ℕ → List Record
+made_halves root at left right =
+    Make left root.kind root.level
+    ∷ Make right root.kind root.level
+    ∷ (inserts left 0 (take at root.items) ++ inserts right 0 (right_half root at))
+
+-- the root becomes an inner page over the halves
+abbrev pub made_root : Image → ℕ → ℕ → ℕ → List Record
+made_root root at left right =
+    Cut root.page 0
+    ∷ Make root.page Inner (root.level + 1)
+    ∷ InsertSlot root.page 0 (entry_of [] left)
+    ∷ InsertSlot root.page 1 (entry_of (separator root at) right)
+    ∷ []
 
 -- both halves move to the two pages that the meta page counts next, and the root becomes an inner page over them
 abbrev pub root_split_records : Image → ℕ → Image → List Record
 root_split_records root at meta =
     let left = count_of meta in
     let right = count_of meta + 1 in
-    (Make left root.kind root.level ∷ Make right root.kind root.level ∷ (inserts left 0 (take at root.items) ++ inserts right 0 (right_half root at)))
-    ++ (linked_to root left right
-    ++ (Cut root.page 0
-    ∷ Make root.page Inner (root.level + 1)
-    ∷ InsertSlot root.page 0 (entry_of [] left)
-    ∷ InsertSlot root.page 1 (entry_of (separator root at) right)
-    ∷ counts meta (right + 1)
-    ∷ []))
+    made_halves root at left right ++ (linked_to root left right ++ (made_root root at left right ++ counts meta (right + 1) ∷ []))
 
 abbrev pub root_split_plan : Image → ℕ → Image → Plan
 root_split_plan root at meta =
     let left = count_of meta in
     let right = count_of meta + 1 in
-    record {
-      kind = Split;
-      pages = root.page ∷ left ∷ right ∷ meta.page ∷ [];
-      made = left ∷ right ∷ [];
-      records = root_split_records root at meta;
-    }
+    split_of (root.page ∷ left ∷ right ∷ meta.page ∷ []) (left ∷ right ∷ []) (root_split_records root at meta)
 
 -- the plan splits the first page below the root with too little room, at the split place
 pub record IsSplit (item : LeafItem) (path : List Image) (meta : Image) (plan : Plan) : Type 0 where

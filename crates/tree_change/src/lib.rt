@@ -7,5 +7,6 @@ mod halves;
 mod places;
 mod room;
 mod spelling;
+mod splitting;
 
 pub use changing::{plan_insert, plan_mark, plan_remove, plan_update};

@@ -1,0 +1,136 @@
+//! Plans that split a page below the root.
+ghost use Rattle.std.specs.Prelude.{◌≡◌, ◌≤◌, ◌<◌, ◌+◌, true, ℕ, [], ◌∷◌, ◌++◌, ◌↔◌, length, IsOk, OnOk, IfOk, IfErr, MatchOption};
+ghost use Rattle.page_view.specs.Leaf.{IsLeaf};
+ghost use Rattle.redo_record.specs.declared.plans.Plan.{Plan};
+ghost use Rattle.tree_change.specs.Places.{page_on};
+ghost use Rattle.tree_change.specs.Room.{lacks_room};
+ghost use Rattle.tree_change.specs.Pages.{HasChildren, IsTreePage};
+ghost use Rattle.tree_change.specs.Way.{IsWayTo};
+ghost use Rattle.tree_change.specs.Splits.{count_of, inserts, right_half, linked_on, linked_to, split_plan, split_of, made_right, IsHeavy, IsSplitPlace, IsFirstFull, IsSplit};
+
+use crate::counting::{count_of, push_count};
+use crate::halves::{move_right_half, separator, split_place};
+use crate::places::place_behind;
+use crate::room::lacks_room;
+use crate::spelling::inner_item_bytes;
+use page_image::{Kind, Page};
+use page_view::LeafItem;
+use redo_record::{Path, Plan, PlanKind, Record, Records, TreeNo};
+use rm_base::{PageId, PageList, WantOfMemory};
+use std::alloc::Global;
+
+/// The list of the pages.
+fn list_of(pages: &[PageId]) -> PageList
+    requires { length pages.now ≤ 8 }
+    ensures { result ≡ pages.now }
+{
+    let mut list = PageList::new();
+    for page in pages {
+        list.try_push(*page).unwrap();
+    }
+    list
+}
+
+/// A plan that splits a page.
+pub(crate) fn split_of(pages: &[PageId], made: &[PageId], records: Records) -> Plan
+    requires pages { length pages.now ≤ 8 }
+    requires made { length made.now ≤ 8 }
+    ensures { result ≡ split_of pages.now made.now records }
+{
+    Plan {
+        kind: PlanKind::Split,
+        pages: list_of(pages),
+        made: list_of(made),
+        records,
+    }
+}
+
+/// Adds the record that links a new page to where the old one was linked, if anywhere.
+fn push_linked_on(records: &mut Records, page: PageId, next: u32) -> Result<(), WantOfMemory>
+    ensures { OnOk result (records.new ≡ records.old ++ linked_on page next) }
+{
+    if next == 0 {
+        return Ok(());
+    }
+    records.push(Record::Link { page, next })
+}
+
+/// Adds the record that links a leaf to its new right neighbour. Inner pages are not linked.
+pub(crate) fn push_linked_to(
+    records: &mut Records,
+    split: &Page,
+    page: PageId,
+    right: PageId,
+) -> Result<(), WantOfMemory>
+    ensures { OnOk result (records.new ≡ records.old ++ linked_to split.now page right) }
+{
+    if split.kind() == Kind::Inner {
+        return Ok(());
+    }
+    records.push(Record::Link {
+        page,
+        next: right.number(),
+    })
+}
+
+/// The records that make the new page of a split.
+fn right_records(
+    alloc: Global,
+    page: &Page,
+    at: u16,
+    new: PageId,
+) -> Result<Records, WantOfMemory>
+    requires heavy { IsHeavy page.now.items }
+    requires within { at < length page.now.items }
+    ensures { IfOk result (λ records. records ≡ made_right page.now at new) }
+{
+    let mut records = Records::new(alloc);
+    records.push(Record::Make {
+        page: new,
+        kind: page.kind(),
+        level: page.level(),
+    })?;
+    move_right_half(alloc, &mut records, page, at, new)?;
+    push_linked_on(&mut records, new, page.next())?;
+    Ok(records)
+}
+
+/// The plan of `plan_split` for one page and its parent.
+#[tactic(auto, using(crate::proofs::HeavyLaws::heavy))]
+pub(crate) fn split_below(
+    alloc: Global,
+    parent: &Page,
+    page: &Page,
+    meta: &Page,
+    item: &LeafItem,
+) -> Result<Result<Plan, TreeNo>, WantOfMemory>
+    requires parent { HasChildren parent.now }
+    requires page { IsTreePage page.now }
+    requires item { IsLeaf item.now }
+    requires full { lacks_room item.now page.now ≡ true }
+    requires meta { meta.now.kind ≡ Kind.Meta }
+    ensures room { IfOk result (λ answer. IsOk answer ↔ (count_of meta.now ≤ 32767)) }
+    ensures no { IfOk result (λ answer. IfErr answer (λ no. no ≡ TreeNo.SpaceFull)) }
+    ensures plan { IfOk result (λ answer. IfOk answer (λ plan. (at : ℕ) × IsSplitPlace page.now.items at
+        × (plan ≡ split_plan item.now.key parent.now page.now at meta.now))) }
+{
+    let Some(new) = PageId::new(count_of(meta)) else {
+        return Ok(Err(TreeNo::SpaceFull));
+    };
+    let at = split_place(page);
+    let mut records = right_records(alloc, page, at, new)?;
+    push_linked_to(&mut records, page, page.page(), new)?;
+    records.push(Record::Cut {
+        page: page.page(),
+        from: at,
+    })?;
+    let entry = inner_item_bytes(alloc, separator(page, at), new)?;
+    records.push(Record::InsertSlot {
+        page: parent.page(),
+        index: place_behind(parent, item.key.as_slice()),
+        bytes: entry,
+    })?;
+    push_count(alloc, &mut records, meta, new.number() + 1)?;
+    let pages = [parent.page(), page.page(), new, meta.page()];
+    Ok(Ok(split_of(&pages, &[new], records)))
+}
