@@ -1,5 +1,5 @@
 -- The plans that split a page.
-use Rattle.std.specs.Prelude.{◌≡◌, ◌≤◌, ◌<◌, ◌+◌, ◌==◌, ℕ, Bool, true, false, List, [], ◌∷◌, ◌++◌, length, take, drop, slice_index, slice_index_or, if◌then◌else◌}
+use Rattle.std.specs.Prelude.{◌≡◌, ◌≤◌, ◌<◌, ◌+◌, ◌==◌, ℕ, Bool, true, false, List, [], ◌∷◌, ◌++◌, length, take, drop, slice_index, slice_index_or, Option, MatchOption, if◌then◌else◌}
 use Rattle.std.specs.List.{AllByRecursion}
 use Rattle.rm_base.specs.Fields.{field, number}
 use Rattle.page_image.specs.declared.kind.Kind.TheVariants.{Inner}
@@ -22,6 +22,11 @@ pub record IsFirstFull (item : LeafItem) (path : List Image) (i : ℕ) : Type 0 
   pub within : i < length path
   pub full : lacks_room item (page_on path i) ≡ true
   pub others : (j : ℕ) → j < i → lacks_room item (page_on path j) ≡ false
+
+-- the first such page, or none where each page has room
+abbrev pub IsFirstFullOrNone : LeafItem → List Image → Option ℕ → Type 0
+IsFirstFullOrNone item path found =
+    MatchOption found ((i : ℕ) → i < length path → lacks_room item (page_on path i) ≡ false) (λ i. IsFirstFull item path i)
 
 -- the least number of items that take half a page or more with their slots; each half has an item
 pub record IsSplitPlace (items : List (List ℕ)) (at : ℕ) : Type 0 where

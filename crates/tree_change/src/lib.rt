@@ -6,6 +6,7 @@ mod counting;
 mod halves;
 mod places;
 mod room;
+mod root_splitting;
 mod spelling;
 mod splitting;
 

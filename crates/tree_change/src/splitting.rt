@@ -6,7 +6,7 @@ ghost use Rattle.tree_change.specs.Places.{page_on};
 ghost use Rattle.tree_change.specs.Room.{lacks_room};
 ghost use Rattle.tree_change.specs.Pages.{HasChildren, IsTreePage};
 ghost use Rattle.tree_change.specs.Way.{IsWayTo};
-ghost use Rattle.tree_change.specs.Splits.{count_of, inserts, right_half, linked_on, linked_to, split_plan, split_of, made_right, IsHeavy, IsSplitPlace, IsFirstFull, IsSplit};
+ghost use Rattle.tree_change.specs.Splits.{count_of, inserts, right_half, linked_on, linked_to, split_plan, split_of, made_right, IsHeavy, IsSplitPlace, IsFirstFull, IsFirstFullOrNone, IsSplit};
 
 use crate::counting::{count_of, push_count};
 use crate::halves::{move_right_half, separator, split_place};
@@ -133,4 +133,18 @@ pub(crate) fn split_below(
     push_count(alloc, &mut records, meta, new.number() + 1)?;
     let pages = [parent.page(), page.page(), new, meta.page()];
     Ok(Ok(split_of(&pages, &[new], records)))
+}
+
+/// The first page of the path with too little room, where there is one.
+fn first_full(path: &[Page], item: &LeafItem) -> Option<usize>
+    requires pages { (i : ℕ) → i < length path.now → IsTreePage (page_on path.now i) }
+    requires item { IsLeaf item.now }
+    ensures { IsFirstFullOrNone item.now path.now result }
+{
+    for (i, page) in path.iter().enumerate() {
+        if lacks_room(page, item) {
+            return Some(i);
+        }
+    }
+    None
 }
