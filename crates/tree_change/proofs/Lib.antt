@@ -13,3 +13,4 @@ pub mod AnswerLaws
 pub mod CountLaws
 pub mod HalfLaws
 pub mod HeavyLaws
+pub mod SplitLaws
