@@ -14,3 +14,4 @@ pub mod CountLaws
 pub mod HalfLaws
 pub mod HeavyLaws
 pub mod SplitLaws
+pub mod ParentLaws

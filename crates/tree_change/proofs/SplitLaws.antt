@@ -124,7 +124,7 @@ first_key C y z [] lo hi items nodes e p = subst (λ (c : ℕ). C c lo hi items 
 first_key C y z (v ∷ vs) lo hi items nodes e p =
     (p.0, p.1, p.2, p.3, subst (λ (c : ℕ). C c lo (Some v.key) p.0 p.2) (sym e) p.4, p.5, p.6, p.7, p.8, p.9)
 
-sorted_items : (im : Image) (page level : ℕ) (es : List InnerItem) → IsInnerPage im page level es → Sorted (map inner_bytes es)
+pub sorted_items : (im : Image) (page level : ℕ) (es : List InnerItem) → IsInnerPage im page level es → Sorted (map inner_bytes es)
 sorted_items im page level es h = subst Sorted h.has (sorted_from im.items h.ascend)
 
 right_sorted : (y : InnerItem) (vs : List InnerItem) → Sorted (map inner_bytes (y ∷ vs)) → Sorted (entry_of [] y.child ∷ map inner_bytes vs)
@@ -136,7 +136,7 @@ right_sorted y vs s = (
   s.1,
 )
 
-ascend_at : (im : Image) (items : List (List ℕ)) → im.items ≡ items → Sorted items → Ascend (keys_of im.items)
+pub ascend_at : (im : Image) (items : List (List ℕ)) → im.items ≡ items → Sorted items → Ascend (keys_of im.items)
 ascend_at im items e s = subst (λ (l : List (List ℕ)). Ascend (keys_of l)) (sym e) (ascend_from items s)
 
 pub inner_parts : (pages others : ℕ → Image) (m page new : ℕ) (lo hi : Option (List ℕ)) (x : InnerItem) (us : List InnerItem) (y : InnerItem) (vs : List InnerItem)
