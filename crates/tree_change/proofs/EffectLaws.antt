@@ -5,6 +5,7 @@ use Rattle.std.proofs.lemmas.Bool.{eq-eqb, ne_eqb}
 use Rattle.page_image.specs.Image.{Image}
 use Rattle.redo_record.specs.declared.redo.Record.{Record}
 use Rattle.redo_record.specs.Effect.{page_of, Applies, effect, step, after_records, RecordsApply}
+use Rattle.redo_record.proofs.Fold.{after_records-append, RecordsApply-append}
 
 pub step_own : (r : Record) (lsn : ℕ) (im : Image) → page_of r ≡ im.page → step lsn im r ≡ effect r lsn im
 step_own r lsn im e = let same : eqb (page_of r) im.page ≡ true = eq-eqb (page_of r) im.page e in rw same refl
@@ -25,3 +26,29 @@ pub none_apply : (lsn : ℕ) (rs : List Record) (im : Image) → NoneFor im.page
 none_apply lsn [] im h = tt
 none_apply lsn (r ∷ rs) im h =
     ((λ e. absurd (h.0 e)), subst (λ (i : Image). RecordsApply lsn rs i) (sym (step_other r lsn im h.0)) (none_apply lsn rs im h.1))
+
+-- records for one page are none for another
+pub none_of : (page other : ℕ) (rs : List Record) → AllByRecursion (λ r. page_of r ≡ page) rs → page ≢ other → NoneFor other rs
+none_of page other [] h ne = tt
+none_of page other (r ∷ rs) h ne = ((λ e. ne (sym h.0 ∙ e)), none_of page other rs h.1 ne)
+
+-- records for other pages are passed over
+pub skip : (lsn : ℕ) (rs ss : List Record) (im : Image) → NoneFor im.page rs → after_records lsn (rs ++ ss) im ≡ after_records lsn ss im
+skip lsn rs ss im h = after_records-append lsn rs ss im ∙ ap (λ (i : Image). after_records lsn ss i) (untouched lsn rs im h)
+
+pub skip_apply : (lsn : ℕ) (rs ss : List Record) (im : Image) → NoneFor im.page rs → RecordsApply lsn ss im → RecordsApply lsn (rs ++ ss) im
+skip_apply lsn rs ss im h a =
+    RecordsApply-append lsn rs ss im (none_apply lsn rs im h) (subst (λ (i : Image). RecordsApply lsn ss i) (sym (untouched lsn rs im h)) a)
+
+-- one record of the page, and then others
+pub own_apply : (lsn : ℕ) (r : Record) (ss : List Record) (im : Image) → page_of r ≡ im.page → Applies r im → RecordsApply lsn ss (effect r lsn im) → RecordsApply lsn (r ∷ ss) im
+own_apply lsn r ss im e a rest = ((λ _. a), subst (λ (i : Image). RecordsApply lsn ss i) (sym (step_own r lsn im e)) rest)
+
+pub other_apply : (lsn : ℕ) (r : Record) (ss : List Record) (im : Image) → page_of r ≢ im.page → RecordsApply lsn ss im → RecordsApply lsn (r ∷ ss) im
+other_apply lsn r ss im ne rest = ((λ e. absurd (ne e)), subst (λ (i : Image). RecordsApply lsn ss i) (sym (step_other r lsn im ne)) rest)
+
+pub own_after : (lsn : ℕ) (r : Record) (ss : List Record) (im : Image) → page_of r ≡ im.page → after_records lsn (r ∷ ss) im ≡ after_records lsn ss (effect r lsn im)
+own_after lsn r ss im e = ap (λ (i : Image). after_records lsn ss i) (step_own r lsn im e)
+
+pub other_after : (lsn : ℕ) (r : Record) (ss : List Record) (im : Image) → page_of r ≢ im.page → after_records lsn (r ∷ ss) im ≡ after_records lsn ss im
+other_after lsn r ss im ne = ap (λ (i : Image). after_records lsn ss i) (step_other r lsn im ne)

@@ -15,3 +15,5 @@ pub mod HalfLaws
 pub mod HeavyLaws
 pub mod SplitLaws
 pub mod ParentLaws
+pub mod MoveLaws
+pub mod SplitEffects
