@@ -17,3 +17,6 @@ pub mod SplitLaws
 pub mod ParentLaws
 pub mod MoveLaws
 pub mod SplitEffects
+pub mod SiteLaws
+pub mod LinkLaws
+pub mod SplitTree

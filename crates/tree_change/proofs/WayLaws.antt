@@ -39,9 +39,36 @@ way_down pages (suc i) (suc level) root l key numbers w e =
     let here : get_or numbers (suc i) 0 ≡ get_or w.2 i 0 = ap (λ (k : List ℕ). get_or k (suc i) 0) w.7 in
     (w.0, w.1, w.3, w.4, w.5, subst (λ (p : ℕ). Down pages key i level w.1.child l p) (sym here) rest)
 
+-- one step down the way
+pub record StepDown (pages : ℕ → Image) (key : List ℕ) (page below : ℕ) : Type 0 where
+  pub place : ℕ
+  pub entry : InnerItem
+  pub child : IsChildFor (keys_of (pages page).items) key place
+  pub get : slice_get (pages page).items place ≡ Some (inner_bytes entry)
+  pub is : IsInner entry
+  pub child_is : entry.child ≡ below
+
+pub step_down : (pages : ℕ → Image) (i level root l : ℕ) (key : List ℕ) (numbers : List ℕ) → Way pages level root key numbers → i + suc l ≡ level
+    → StepDown pages key (get_or numbers i 0) (get_or numbers (suc i) 0)
+step_down pages zero zero root l key numbers w e = absurd (omega arith)
+step_down pages zero (suc level) root l key numbers w e =
+    let here : root ≡ get_or numbers 0 0 = way_starts pages (suc level) root key numbers w in
+    let next : w.1.child ≡ get_or numbers 1 0 =
+    way_starts pages level w.1.child key w.2 w.6 ∙ sym (ap (λ (k : List ℕ). get_or k 1 0) w.7) in
+    subst (λ (p : ℕ). StepDown pages key p (get_or numbers 1 0)) here
+    (record { place = w.0; entry = w.1; child = w.3; get = w.4; is = w.5; child_is = next })
+step_down pages (suc i) zero root l key numbers w e = absurd (omega arith)
+step_down pages (suc i) (suc level) root l key numbers w e =
+    let rest = step_down pages i level w.1.child l key w.2 w.6 (omega arith) in
+    let here : get_or numbers (suc i) 0 ≡ get_or w.2 i 0 = ap (λ (k : List ℕ). get_or k (suc i) 0) w.7 in
+    let next : get_or numbers (suc (suc i)) 0 ≡ get_or w.2 (suc i) 0 = ap (λ (k : List ℕ). get_or k (suc (suc i)) 0) w.7 in
+    subst (λ (p : ℕ). StepDown pages key p (get_or numbers (suc (suc i)) 0)) (sym here)
+    (subst (λ (p : ℕ). StepDown pages key (get_or w.2 i 0) p) (sym next) rest)
+
 -- the page at a place of the path, in its tree
 pub record At (key : List ℕ) (path : List Image) (w : IsWayTo key path) (i below : ℕ) : Type 0 where
   pub page : ℕ
+  pub number : page ≡ get_or w.numbers i 0
   pub down : Down w.pages key i w.tree.level w.root below page
   pub is : page_on path i ≡ w.pages page
   pub spot : Spot w.pages w.tree.level w.root None None w.items w.tree.nodes key below page
@@ -57,6 +84,7 @@ at key path w i below e =
     let inside : i < length w.numbers = omega arith in
     record {
       page = get_or w.numbers i 0;
+      number = refl;
       down = d;
       is = ap (λ (l : List Image). get_or l i (unmade 0)) w.read ∙ lists.get_or-map w.pages w.numbers i 0 (unmade 0) inside;
       spot = spot w.pages i w.tree.level w.root None None w.items w.tree.nodes key below (get_or w.numbers i 0) w.tree.stands d tt tt;

@@ -1,7 +1,7 @@
 -- What a plan's records do to a tree's pages.
 use Rattle.std.specs.Prelude.{◌≡◌, ◌≢◌, ℕ, List, ◌∷◌, ◌++◌}
 use Rattle.std.specs.List.{AllByRecursion}
-use Rattle.page_image.specs.Image.{Image}
+use Rattle.page_image.specs.Image.{Image, unmade}
 use Rattle.redo_record.specs.declared.redo.Record.{Record}
 use Rattle.redo_record.specs.declared.plans.Plan.{Plan}
 use Rattle.redo_record.specs.Effect.{after_records, RecordsApply}
@@ -31,3 +31,14 @@ pub record Carries (key : List ℕ) (path : List Image) (plan : Plan) (change : 
   pub only : TouchesOnly plan.pages plan.records
   pub applies : (w : IsWayTo key path) (lsn page : ℕ) → (w.pages page).page ≡ page → RecordsApply lsn plan.records (w.pages page)
   pub stands : (w : IsWayTo key path) (lsn : ℕ) → Tree (pages_after lsn plan.records w.pages) w.root (change w.items)
+
+-- in the tree's pages, the meta page is this one, and the pages that the plan makes are not made yet
+pub record IsFresh (pages : ℕ → Image) (meta : Image) (plan : Plan) : Type 0 where
+  pub meta_is : pages meta.page ≡ meta
+  pub unmade : AllByRecursion (λ page. pages page ≡ unmade page) plan.made
+
+-- in each tree with the path, the plan's records apply in order to each page, change only the plan's pages, and after them the tree stands for the same items
+pub record Keeps (key : List ℕ) (path : List Image) (meta : Image) (plan : Plan) : Type 0 where
+  pub only : TouchesOnly plan.pages plan.records
+  pub applies : (w : IsWayTo key path) → IsFresh w.pages meta plan → (lsn page : ℕ) → (w.pages page).page ≡ page → RecordsApply lsn plan.records (w.pages page)
+  pub stands : (w : IsWayTo key path) → IsFresh w.pages meta plan → (lsn : ℕ) → Tree (pages_after lsn plan.records w.pages) w.root w.items

@@ -2,7 +2,7 @@
 use Rattle.std.specs.Prelude.{◌≡◌, ◌≤◌, ◌<◌, ◌+◌, ◌==◌, ℕ, Bool, true, false, List, [], ◌∷◌, ◌++◌, length, take, drop, slice_index, slice_index_or, Option, MatchOption, if◌then◌else◌}
 use Rattle.std.specs.List.{AllByRecursion}
 use Rattle.rm_base.specs.Fields.{field, number}
-use Rattle.page_image.specs.declared.kind.Kind.TheVariants.{Inner}
+use Rattle.page_image.specs.declared.kind.Kind.TheVariants.{Meta, Inner}
 use Rattle.page_image.specs.Image.{Image, is_inner, used}
 use Rattle.page_view.specs.declared.leaf.LeafItem.{LeafItem}
 use Rattle.page_view.specs.declared.leaf.TheConstants.{LARGEST_LEAF}
@@ -45,6 +45,11 @@ pub record IsSmall (item : List ℕ) : Type 0 where
 pub record IsHeavy (items : List (List ℕ)) : Type 0 where
   pub small : AllByRecursion IsSmall items
   pub enough : HALF_BYTES + LARGEST_LEAF + 2 ≤ used items
+
+-- the meta page is page 0
+pub record IsMeta (meta : Image) : Type 0 where
+  pub kind : meta.kind ≡ Meta
+  pub number : meta.page ≡ 0
 
 -- the number of pages that a meta page counts
 abbrev pub count_of : Image → ℕ

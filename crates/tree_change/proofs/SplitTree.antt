@@ -1,0 +1,200 @@
+-- A split below the root leaves a tree that stands for the same items.
+use Rattle.std.proofs.Common.{◌≡◌, ◌≢◌, ◌<◌, ◌≤◌, ◌+◌, ◌-◌, ℕ, zero, suc, Bool, true, false, cond, eqb, List, [], ◌∷◌, ◌++◌, length, map, take, drop, get_or, slice_get, Option, Some, None, refl, sym, ap, subst, ◌∙◌, arith, inl, inr}
+use Rattle.std.specs.Prelude.{◌⊎◌, filter, nat_eq}
+use Rattle.std.specs.List.{AllByRecursion, IsDistinct}
+use Rattle.std.proofs.lemmas.List.{take-append-drop, drop_more, append_assoc, append-nil, map-append, length-map, length-append, length-take-le, take_at, drop_at}
+use Rattle.std.proofs.lemmas.List.Elements.{filter-append}
+use Rattle.std.proofs.lemmas.Bool.Decides.{eqb_tells}
+use Rattle.page_image.specs.declared.kind.Kind.{Kind}
+use Rattle.page_image.specs.declared.kind.Kind.TheVariants.{Unmade, Meta, Leaf, Inner}
+use Rattle.page_image.specs.Image.{Image, unmade, is_inner, inserted, cut_from, linked}
+use Rattle.page_view.specs.Inner.{InnerItem, inner_bytes, IsInner}
+use Rattle.page_view.specs.Keys.{key_in, keys_of}
+use Rattle.redo_record.specs.declared.redo.Record.{Record}
+use Rattle.redo_record.specs.Effect.{page_of, after_records}
+use Rattle.bplus_tree.specs.Tree.{IsLeafPage, IsInnerPage, Parts, Stands, Tree, is_leaf, leaves_of, Linked}
+use Rattle.tree_change.specs.Way.{IsWayTo}
+use Rattle.tree_change.specs.Places.{page_on, not_greater}
+use Rattle.tree_change.specs.Splits.{IsSplitPlace, IsMeta, count_of, right_half, first_without_key, without_key, separator, entry_of, split_records}
+use Rattle.tree_change.specs.Effects.{pages_after}
+use Rattle.tree_change.proofs.ListLaws.{all_front, all_back, all_join, all_weaker}
+use Rattle.tree_change.proofs.SortLaws.{all_filter}
+use Rattle.tree_change.proofs.EffectLaws.{untouched}
+use Rattle.tree_change.proofs.EntryLaws.{key_of_entry}
+use Rattle.tree_change.proofs.SpotLaws.{SameAt, Spot}
+use Rattle.tree_change.proofs.NodeLaws.{IsNode, Without}
+use Rattle.tree_change.proofs.SplitLaws.{Halves, leaf_parts, inner_parts, without_first_key}
+use Rattle.tree_change.proofs.ParentLaws.{entry_joins, parent_stands}
+use Rattle.tree_change.proofs.SplitEffects.{Apart, IsMade, on_new, on_parent, on_page, linked_page, none_else}
+use Rattle.tree_change.proofs.SiteLaws.{Site, Around, around}
+use Rattle.tree_change.proofs.LinkLaws.{distinct_more, filter_same, SameNext, linked_on_same, linked_more}
+
+-- ---- pages of other kinds are no pages of a tree
+
+pub unmade_apart : (pages : ℕ → Image) (p q : ℕ) → (pages p).kind ≡ Unmade → IsNode pages q → p ≢ q
+unmade_apart pages p q u n e =
+    let k : (pages q).kind ≡ Unmade = subst (λ (r : ℕ). (pages r).kind ≡ Unmade) e u in
+    by_kind n.kind k
+  where
+    by_kind : ((pages q).kind ≡ Leaf) ⊎ ((pages q).kind ≡ Inner) → (pages q).kind ≡ Unmade → ⊥
+    by_kind (inl l) k = let h : Leaf ≡ Unmade = sym l ∙ k in cc
+    by_kind (inr i) k = let h : Inner ≡ Unmade = sym i ∙ k in cc
+
+pub meta_apart : (pages : ℕ → Image) (p q : ℕ) → (pages p).kind ≡ Meta → IsNode pages q → p ≢ q
+meta_apart pages p q u n e =
+    let k : (pages q).kind ≡ Meta = subst (λ (r : ℕ). (pages r).kind ≡ Meta) e u in
+    by_kind n.kind k
+  where
+    by_kind : ((pages q).kind ≡ Leaf) ⊎ ((pages q).kind ≡ Inner) → (pages q).kind ≡ Meta → ⊥
+    by_kind (inl l) k = let h : Leaf ≡ Meta = sym l ∙ k in cc
+    by_kind (inr i) k = let h : Inner ≡ Meta = sym i ∙ k in cc
+
+-- ---- the setting of a split
+
+pub record Setting (key : List ℕ) (path : List Image) (w : IsWayTo key path) (i l : ℕ) (meta : Image) (at : ℕ) : Type 0 where
+  pub site : Site key path w i l
+  pub around : Around key path w i l site
+  pub place : IsSplitPlace (w.pages site.page).items at
+  pub is_meta : IsMeta meta
+  pub meta_there : w.pages meta.page ≡ meta
+  pub new_there : w.pages (count_of meta) ≡ unmade (count_of meta)
+  pub new_bound : count_of meta ≤ 32767
+
+abbrev pub rs_of : (key : List ℕ) (path : List Image) (w : IsWayTo key path) (i l : ℕ) (meta : Image) (at : ℕ) → Setting key path w i l meta at → List Record
+rs_of key path w i l meta at s = split_records key (w.pages s.site.parent) (w.pages s.site.page) at meta
+
+pub kind_of_new : (key : List ℕ) (path : List Image) (w : IsWayTo key path) (i l : ℕ) (meta : Image) (at : ℕ) (s : Setting key path w i l meta at) → (w.pages (count_of meta)).kind ≡ Unmade
+kind_of_new key path w i l meta at s = ap (λ (im : Image). im.kind) s.new_there
+
+pub kind_of_meta : (key : List ℕ) (path : List Image) (w : IsWayTo key path) (i l : ℕ) (meta : Image) (at : ℕ) (s : Setting key path w i l meta at) → (w.pages meta.page).kind ≡ Meta
+kind_of_meta key path w i l meta at s = ap (λ (im : Image). im.kind) s.meta_there ∙ s.is_meta.kind
+
+pub new_not_meta : (key : List ℕ) (path : List Image) (w : IsWayTo key path) (i l : ℕ) (meta : Image) (at : ℕ) (s : Setting key path w i l meta at) → count_of meta ≢ meta.page
+new_not_meta key path w i l meta at s e =
+    let h : Unmade ≡ Meta = sym (kind_of_new key path w i l meta at s) ∙ ap (λ (p : ℕ). (w.pages p).kind) e ∙ kind_of_meta key path w i l meta at s in
+    cc
+
+pub four_apart : (key : List ℕ) (path : List Image) (w : IsWayTo key path) (i l : ℕ) (meta : Image) (at : ℕ) (s : Setting key path w i l meta at)
+    → Apart (w.pages s.site.parent).page (w.pages s.site.page).page (count_of meta) meta.page
+four_apart key path w i l meta at s =
+    let p = s.around.parent_node in
+    let c = s.around.page_node in
+    let new = unmade_apart w.pages (count_of meta) in
+    record {
+      ab = λ e. s.around.apart (sym p.number ∙ e ∙ c.number);
+      ac = λ e. unmade_apart w.pages (count_of meta) s.site.parent (kind_of_new key path w i l meta at s) p (sym (sym p.number ∙ e));
+      ad = λ e. meta_apart w.pages meta.page s.site.parent (kind_of_meta key path w i l meta at s) p (sym (sym p.number ∙ e));
+      bc = λ e. unmade_apart w.pages (count_of meta) s.site.page (kind_of_new key path w i l meta at s) c (sym (sym c.number ∙ e));
+      bd = λ e. meta_apart w.pages meta.page s.site.page (kind_of_meta key path w i l meta at s) c (sym (sym c.number ∙ e));
+      cd = new_not_meta key path w i l meta at s;
+    }
+
+-- other pages of the tree stay
+pub same_else : (key : List ℕ) (path : List Image) (w : IsWayTo key path) (i l : ℕ) (meta : Image) (at lsn : ℕ) (s : Setting key path w i l meta at)
+    → (q : ℕ) → IsNode w.pages q → q ≢ s.site.parent → q ≢ s.site.page → pages_after lsn (rs_of key path w i l meta at s) w.pages q ≡ w.pages q
+same_else key path w i l meta at lsn s q n np nc =
+    untouched lsn (rs_of key path w i l meta at s) (w.pages q)
+    (none_else key (w.pages s.site.parent) (w.pages s.site.page) meta at (w.pages q).page
+    (λ e. np (sym (sym s.around.parent_node.number ∙ e ∙ n.number)))
+    (λ e. nc (sym (sym s.around.page_node.number ∙ e ∙ n.number)))
+    (λ e. unmade_apart w.pages (count_of meta) q (kind_of_new key path w i l meta at s) n (e ∙ n.number))
+    (λ e. meta_apart w.pages meta.page q (kind_of_meta key path w i l meta at s) n (e ∙ n.number)))
+
+pub same_list : (key : List ℕ) (path : List Image) (w : IsWayTo key path) (i l : ℕ) (meta : Image) (at lsn : ℕ) (s : Setting key path w i l meta at)
+    → (nodes : List ℕ) → AllByRecursion (IsNode w.pages) nodes → Without s.site.parent nodes → Without s.site.page nodes
+    → SameAt w.pages (pages_after lsn (rs_of key path w i l meta at s) w.pages) nodes
+same_list key path w i l meta at lsn s [] n p c = tt
+same_list key path w i l meta at lsn s (q ∷ nodes) n p c =
+    (same_else key path w i l meta at lsn s q n.0 p.0 c.0, same_list key path w i l meta at lsn s nodes n.1 p.1 c.1)
+
+-- ---- the halves
+
+-- a list at a place past its first item
+pub record CutAt (items : List (List ℕ)) (at : ℕ) : Type 0 where
+  pub a : List ℕ
+  pub front : List (List ℕ)
+  pub b : List ℕ
+  pub back : List (List ℕ)
+  pub are : items ≡ (a ∷ front) ++ (b ∷ back)
+  pub taken : take at items ≡ a ∷ front
+  pub dropped : drop at items ≡ b ∷ back
+  pub here : get_or items at [] ≡ b
+
+pub cut_at : (items : List (List ℕ)) (at : ℕ) → IsSplitPlace items at → CutAt items at
+cut_at [] at p = absurd (let h = p.within in omega (arith, h))
+cut_at (x ∷ items) zero p = absurd (let h = p.some in omega (arith, h))
+cut_at (x ∷ items) (suc at) p =
+    let within : at < length items = (let h = p.within in omega (arith, h)) in
+    record {
+      a = x;
+      front = take at items;
+      b = get_or items at [];
+      back = drop (at + 1) items;
+      are = ap (λ (l : List (List ℕ)). x ∷ l) (sym (take-append-drop at items) ∙ ap (λ (l : List (List ℕ)). take at items ++ l) (drop_more items at [] within));
+      taken = refl;
+      dropped = drop_more items at [] within;
+      here = refl;
+    }
+
+-- what the page and the new page are afterwards
+pub record After (others : ℕ → Image) (im : Image) (page new at : ℕ) : Type 0 where
+  pub left_kind : (others page).kind ≡ im.kind
+  pub left_number : (others page).page ≡ im.page
+  pub left_level : (others page).level ≡ im.level
+  pub left_items : (others page).items ≡ take at im.items
+  pub left_next : is_inner im.kind ≡ false → (others page).next ≡ new
+  pub left_stays : is_inner im.kind ≡ true → (others page).next ≡ im.next
+  pub right_kind : (others new).kind ≡ im.kind
+  pub right_number : (others new).page ≡ new
+  pub right_level : (others new).level ≡ im.level
+  pub right_items : (others new).items ≡ right_half im at
+  pub right_next : (others new).next ≡ im.next
+
+cut_linked : (im : Image) (new at lsn : ℕ) (om : Image) → om ≡ cut_from (linked_page im new lsn) at lsn
+    → (om.kind ≡ im.kind) × (om.page ≡ im.page) × (om.level ≡ im.level) × (om.items ≡ take at im.items) × (is_inner im.kind ≡ false → om.next ≡ new) × (is_inner im.kind ≡ true → om.next ≡ im.next)
+cut_linked im new at lsn om e = by_test (is_inner im.kind) refl
+  where
+    by_test : (b : Bool) → is_inner im.kind ≡ b
+        → (om.kind ≡ im.kind) × (om.page ≡ im.page) × (om.level ≡ im.level) × (om.items ≡ take at im.items) × (is_inner im.kind ≡ false → om.next ≡ new) × (is_inner im.kind ≡ true → om.next ≡ im.next)
+    by_test true t =
+        let is : om ≡ cut_from im at lsn = e ∙ ap (λ (b : Bool). cut_from (cond b im (linked im new lsn)) at lsn) t in (
+          ap (λ (o : Image). o.kind) is,
+          ap (λ (o : Image). o.page) is,
+          ap (λ (o : Image). o.level) is,
+          ap (λ (o : Image). o.items) is,
+          (λ f. absurd (let h : true ≡ false = sym t ∙ f in cc)),
+          (λ _. ap (λ (o : Image). o.next) is),
+        )
+    by_test false t =
+        let is : om ≡ cut_from (linked im new lsn) at lsn = e ∙ ap (λ (b : Bool). cut_from (cond b im (linked im new lsn)) at lsn) t in (
+          ap (λ (o : Image). o.kind) is,
+          ap (λ (o : Image). o.page) is,
+          ap (λ (o : Image). o.level) is,
+          ap (λ (o : Image). o.items) is,
+          (λ _. ap (λ (o : Image). o.next) is),
+          (λ f. absurd (let h : false ≡ true = sym t ∙ f in cc)),
+        )
+
+pub after_split : (key : List ℕ) (path : List Image) (w : IsWayTo key path) (i l : ℕ) (meta : Image) (at lsn : ℕ) (s : Setting key path w i l meta at)
+    → After (pages_after lsn (rs_of key path w i l meta at s) w.pages) (w.pages s.site.page) s.site.page (count_of meta) at
+after_split key path w i l meta at lsn s =
+    let others : ℕ → Image = pages_after lsn (rs_of key path w i l meta at s) w.pages in
+    let parent = w.pages s.site.parent in
+    let im : Image = w.pages s.site.page in
+    let d = four_apart key path w i l meta at s in
+    let cut = cut_linked im (count_of meta) at lsn (others s.site.page) (on_page key parent im meta at lsn d) in
+    let m = on_new key parent im meta at lsn d in
+    let e : others (count_of meta) ≡ after_records lsn (rs_of key path w i l meta at s) (unmade (count_of meta)) = ap (after_records lsn (rs_of key path w i l meta at s)) s.new_there in
+    record {
+      left_kind = cut.0;
+      left_number = cut.1;
+      left_level = cut.2;
+      left_items = cut.3;
+      left_next = cut.4;
+      left_stays = cut.5;
+      right_kind = ap (λ (o : Image). o.kind) e ∙ m.kind_is;
+      right_number = ap (λ (o : Image). o.page) e ∙ m.number;
+      right_level = ap (λ (o : Image). o.level) e ∙ m.level_is;
+      right_items = ap (λ (o : Image). o.items) e ∙ m.items_are;
+      right_next = ap (λ (o : Image). o.next) e ∙ m.next_is;
+    }
