@@ -43,8 +43,8 @@ pub record Halves (others : ℕ → Image) (level page new : ℕ) (lo hi : Optio
   pub short : length sep ≤ LONGEST_KEY
   pub old_left : List ℕ
   pub old_right : List ℕ
-  pub nodes_were : nodes ≡ old_left ++ old_right
-  pub nodes_are : left_nodes ++ right_nodes ≡ old_left ++ (new ∷ old_right)
+  pub nodes_were : nodes ≡ page ∷ (old_left ++ old_right)
+  pub nodes_are : left_nodes ++ right_nodes ≡ page ∷ (old_left ++ (new ∷ old_right))
 
 -- ---- a leaf
 
@@ -105,7 +105,7 @@ leaf_parts others page new lo hi a as' b bs im h lk lp li rk rp ri =
       below = (all_back (λ item. Below hi (key_in item)) (a ∷ as') (b ∷ bs) h.below).0;
       above = above_empty (key_in a) (key_in b) less.0;
       short = short_key b (all_back HoldsLeaf (a ∷ as') (b ∷ bs) h.each).0;
-      old_left = page ∷ [];
+      old_left = [];
       old_right = [];
       nodes_were = refl;
       nodes_are = refl;
@@ -210,7 +210,7 @@ inner_parts pages others m page new lo hi x us y vs items below im h parts same 
       below = f.front.2;
       above = above_empty (key_in (inner_bytes x)) y.key (subst (λ (k : List ℕ). key_cmp (key_in (inner_bytes x)) k ≡ Less) (key_of_entry y) less);
       short = (all_back (λ entry. length entry.key ≤ LONGEST_KEY) (x ∷ us) (y ∷ vs) h.short).0;
-      old_left = page ∷ f.left;
+      old_left = f.left;
       old_right = f.own ++ f.right;
       nodes_were = ap (λ (l : List ℕ). page ∷ l) f.nodes_are;
       nodes_are = refl;

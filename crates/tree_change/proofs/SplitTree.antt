@@ -2,7 +2,7 @@
 use Rattle.std.proofs.Common.{◌≡◌, ◌≢◌, ◌<◌, ◌≤◌, ◌+◌, ◌-◌, ℕ, zero, suc, Bool, true, false, cond, eqb, List, [], ◌∷◌, ◌++◌, length, map, take, drop, get_or, slice_get, Option, Some, None, refl, sym, ap, subst, ◌∙◌, arith, inl, inr}
 use Rattle.std.specs.Prelude.{◌⊎◌, filter, nat_eq}
 use Rattle.std.specs.List.{AllByRecursion, IsDistinct}
-use Rattle.std.proofs.lemmas.List.{take-append-drop, drop_more, append_assoc, append-nil, map-append, length-map, length-append, length-take-le, take_at, drop_at}
+use Rattle.std.proofs.lemmas.List.{take-append-drop, drop_more, append_assoc, append-nil, map-append, length-map, length-append, length-take-le, take_at, drop_at, get_or_at}
 use Rattle.std.proofs.lemmas.List.Elements.{filter-append}
 use Rattle.std.proofs.lemmas.Bool.Decides.{eqb_tells}
 use Rattle.page_image.specs.declared.kind.Kind.{Kind}
@@ -198,3 +198,133 @@ after_split key path w i l meta at lsn s =
       right_items = ap (λ (o : Image). o.items) e ∙ m.items_are;
       right_next = ap (λ (o : Image). o.next) e ∙ m.next_is;
     }
+
+-- ---- the halves stand for their parts
+
+pub record CutEntries (es : List InnerItem) (at : ℕ) : Type 0 where
+  pub x : InnerItem
+  pub us : List InnerItem
+  pub y : InnerItem
+  pub vs : List InnerItem
+  pub are : es ≡ (x ∷ us) ++ (y ∷ vs)
+  pub count : length (x ∷ us) ≡ at
+
+cut_tail : (x : InnerItem) (es : List InnerItem) (at : ℕ) → at < length es → CutEntries (x ∷ es) (suc at)
+cut_tail x [] at h = absurd (omega arith)
+cut_tail x (y ∷ es) zero h = record { x = x; us = []; y = y; vs = es; are = refl; count = refl }
+cut_tail x (y ∷ es) (suc at) h =
+    let c = cut_tail y es at (omega arith) in
+    record {
+      x = x;
+      us = c.x ∷ c.us;
+      y = c.y;
+      vs = c.vs;
+      are = ap (λ (l : List InnerItem). x ∷ l) c.are;
+      count = ap suc c.count;
+    }
+
+pub cut_entries : (es : List InnerItem) (at : ℕ) → 1 ≤ at → at < length es → CutEntries es at
+cut_entries [] at some h = absurd (omega arith)
+cut_entries (x ∷ es) zero some h = absurd (omega arith)
+cut_entries (x ∷ es) (suc at) some h = cut_tail x es at (omega arith)
+
+-- the items of the entries, at the place where they are cut
+pub record CutItems (im : Image) (at : ℕ) (x : InnerItem) (us : List InnerItem) (y : InnerItem) (vs : List InnerItem) : Type 0 where
+  pub taken : take at im.items ≡ map inner_bytes (x ∷ us)
+  pub right : right_half im at ≡ entry_of [] y.child ∷ map inner_bytes vs
+  pub sep : separator im at ≡ y.key
+
+pub cut_items : (im : Image) (at : ℕ) (x : InnerItem) (us : List InnerItem) (y : InnerItem) (vs : List InnerItem)
+    → im.kind ≡ Inner → im.items ≡ map inner_bytes ((x ∷ us) ++ (y ∷ vs)) → length (x ∷ us) ≡ at → CutItems im at x us y vs
+cut_items im at x us y vs kind has count =
+    let front : List (List ℕ) = map inner_bytes (x ∷ us) in
+    let back : List (List ℕ) = map inner_bytes (y ∷ vs) in
+    let are : im.items ≡ front ++ back = has ∙ map-append inner_bytes (x ∷ us) (y ∷ vs) in
+    let long : length front ≡ at = length-map (x ∷ us) inner_bytes ∙ count in
+    let dropped : drop at im.items ≡ back = ap (drop at) are ∙ drop_at front back at long in
+    let inner : is_inner im.kind ≡ true = ap is_inner kind in
+    record {
+      taken = ap (take at) are ∙ take_at front back at long;
+      right = (rw inner (ap first_without_key dropped ∙ ap (λ (k : List ℕ). k ∷ map inner_bytes vs) (without_first_key y)));
+      sep = ap (λ (l : List (List ℕ)). key_in (get_or l at [])) are ∙ ap key_in (get_or_at front (inner_bytes y) (map inner_bytes vs) [] at long) ∙ key_of_entry y;
+    }
+
+leaf_halves : (pages others : ℕ → Image) (page new at : ℕ) (lo hi : Option (List ℕ)) (mid : List (List ℕ)) (own : List ℕ)
+    → Stands pages zero page lo hi mid own → IsSplitPlace (pages page).items at → After others (pages page) page new at
+    → Halves others zero page new lo hi (separator (pages page) at) mid own
+leaf_halves pages others page new at lo hi mid own h place a =
+    let im : Image = pages page in
+    let c : CutAt im.items at = cut_at im.items at place in
+    let mid_is : mid ≡ (c.a ∷ c.front) ++ (c.b ∷ c.back) = sym h.0.has ∙ c.are in
+    let leaf : IsLeafPage im page lo hi ((c.a ∷ c.front) ++ (c.b ∷ c.back)) = subst (IsLeafPage im page lo hi) mid_is h.0 in
+    let outer : is_inner im.kind ≡ false = ap is_inner h.0.kind in
+    let right : right_half im at ≡ c.b ∷ c.back = (rw outer c.dropped) in
+    let built : Halves others zero page new lo hi (key_in c.b) ((c.a ∷ c.front) ++ (c.b ∷ c.back)) (page ∷ []) =
+    leaf_parts others page new lo hi c.a c.front c.b c.back im leaf
+        (a.left_kind ∙ h.0.kind) (a.left_number ∙ h.0.number) (a.left_items ∙ c.taken) (a.right_kind ∙ h.0.kind) a.right_number (a.right_items ∙ right) in
+    let sep : key_in c.b ≡ separator im at = ap key_in (sym c.here) in
+    subst (λ (n : List ℕ). Halves others zero page new lo hi (separator im at) mid n) (sym h.1)
+    (subst (λ (m : List (List ℕ)). Halves others zero page new lo hi (separator im at) m (page ∷ [])) (sym mid_is)
+    (subst (λ (k : List ℕ). Halves others zero page new lo hi k ((c.a ∷ c.front) ++ (c.b ∷ c.back)) (page ∷ [])) sep built))
+
+tail_same : (p : ℕ) (xs ys : List ℕ) → p ∷ xs ≡ p ∷ ys → xs ≡ ys
+tail_same p xs ys e = cc
+
+inner_halves : (pages others : ℕ → Image) (m page new at : ℕ) (lo hi : Option (List ℕ)) (mid : List (List ℕ)) (own deep : List ℕ)
+    → Stands pages (suc m) page lo hi mid own → own ≡ page ∷ deep → SameAt pages others deep → IsSplitPlace (pages page).items at → After others (pages page) page new at
+    → Halves others (suc m) page new lo hi (separator (pages page) at) mid own
+inner_halves pages others m page new at lo hi mid own deep h own_is same place a =
+    let im : Image = pages page in
+    let es : List InnerItem = h.0 in
+    let ip : IsInnerPage im page (suc m) es = h.2 in
+    let deep_is : deep ≡ h.1 = tail_same page deep h.1 (sym own_is ∙ h.4) in
+    let long : length im.items ≡ length es = ap length ip.has ∙ length-map es inner_bytes in
+    let c : CutEntries es at = cut_entries es at place.some (let within = place.within in omega (arith, long, within)) in
+    let ip' : IsInnerPage im page (suc m) ((c.x ∷ c.us) ++ (c.y ∷ c.vs)) = subst (λ (k : List InnerItem). IsInnerPage im page (suc m) k) c.are ip in
+    let parts : Parts (Stands pages m) ((c.x ∷ c.us) ++ (c.y ∷ c.vs)) lo hi mid h.1 = subst (λ (k : List InnerItem). Parts (Stands pages m) k lo hi mid h.1) c.are h.3 in
+    let items = cut_items im at c.x c.us c.y c.vs ip.kind ip'.has c.count in
+    let built : Halves others (suc m) page new lo hi c.y.key mid (page ∷ h.1) =
+    inner_parts pages others m page new lo hi c.x c.us c.y c.vs mid h.1 im ip' parts (subst (SameAt pages others) deep_is same)
+        (a.left_kind ∙ ip.kind) (a.left_number ∙ ip.number) (a.left_level ∙ ip.height) (a.left_items ∙ items.taken)
+        (a.right_kind ∙ ip.kind) a.right_number (a.right_level ∙ ip.height) (a.right_items ∙ items.right) in
+    subst (λ (n : List ℕ). Halves others (suc m) page new lo hi (separator im at) mid n) (sym h.4)
+    (subst (λ (k : List ℕ). Halves others (suc m) page new lo hi k mid (page ∷ h.1)) (sym items.sep) built)
+
+pub halves : (pages others : ℕ → Image) (l page new at : ℕ) (lo hi : Option (List ℕ)) (mid : List (List ℕ)) (own deep : List ℕ)
+    → Stands pages l page lo hi mid own → own ≡ page ∷ deep → SameAt pages others deep → IsSplitPlace (pages page).items at → After others (pages page) page new at
+    → Halves others l page new lo hi (separator (pages page) at) mid own
+halves pages others zero page new at lo hi mid own deep h own_is same place a = leaf_halves pages others page new at lo hi mid own h place a
+halves pages others (suc m) page new at lo hi mid own deep h own_is same place a = inner_halves pages others m page new at lo hi mid own deep h own_is same place a
+
+-- ---- kinds and links after a split
+
+kind_same : (key : List ℕ) (path : List Image) (w : IsWayTo key path) (i l : ℕ) (meta : Image) (at lsn : ℕ) (s : Setting key path w i l meta at)
+    → (q : ℕ) → IsNode w.pages q → (pages_after lsn (rs_of key path w i l meta at s) w.pages q).kind ≡ (w.pages q).kind
+kind_same key path w i l meta at lsn s q n =
+    let others : ℕ → Image = pages_after lsn (rs_of key path w i l meta at s) w.pages in
+    let a = after_split key path w i l meta at lsn s in
+    let d = four_apart key path w i l meta at s in
+    elim (eqb_tells q s.site.parent) [
+      | inl own ↦ subst (λ (p : ℕ). (others p).kind ≡ (w.pages p).kind) (sym own.1)
+          (ap (λ (o : Image). o.kind) (on_parent key (w.pages s.site.parent) (w.pages s.site.page) meta at lsn d))
+      | inr not_parent ↦ elim (eqb_tells q s.site.page) [
+          | inl own ↦ subst (λ (p : ℕ). (others p).kind ≡ (w.pages p).kind) (sym own.1) a.left_kind
+          | inr not_page ↦ ap (λ (o : Image). o.kind) (same_else key path w i l meta at lsn s q n not_parent.1 not_page.1)
+        ]
+    ]
+
+next_same : (key : List ℕ) (path : List Image) (w : IsWayTo key path) (i l : ℕ) (meta : Image) (at lsn : ℕ) (s : Setting key path w i l meta at)
+    → (q : ℕ) → IsNode w.pages q → (q ≡ s.site.page → is_inner (w.pages s.site.page).kind ≡ true)
+    → (pages_after lsn (rs_of key path w i l meta at s) w.pages q).next ≡ (w.pages q).next
+next_same key path w i l meta at lsn s q n inner =
+    let others : ℕ → Image = pages_after lsn (rs_of key path w i l meta at s) w.pages in
+    let a = after_split key path w i l meta at lsn s in
+    let d = four_apart key path w i l meta at s in
+    elim (eqb_tells q s.site.parent) [
+      | inl own ↦ subst (λ (p : ℕ). (others p).next ≡ (w.pages p).next) (sym own.1)
+          (ap (λ (o : Image). o.next) (on_parent key (w.pages s.site.parent) (w.pages s.site.page) meta at lsn d))
+      | inr not_parent ↦ elim (eqb_tells q s.site.page) [
+          | inl own ↦ subst (λ (p : ℕ). (others p).next ≡ (w.pages p).next) (sym own.1) (a.left_stays (inner own.1))
+          | inr not_page ↦ ap (λ (o : Image). o.next) (same_else key path w i l meta at lsn s q n not_parent.1 not_page.1)
+        ]
+    ]
