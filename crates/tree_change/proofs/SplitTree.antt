@@ -328,3 +328,137 @@ next_same key path w i l meta at lsn s q n inner =
           | inr not_page ↦ ap (λ (o : Image). o.next) (same_else key path w i l meta at lsn s q n not_parent.1 not_page.1)
         ]
     ]
+
+-- ---- the tree after a split
+
+-- the tree's pages before and behind the new one
+pub record Grown (key : List ℕ) (path : List Image) (w : IsWayTo key path) (i l : ℕ) (meta : Image) (at lsn : ℕ) (s : Setting key path w i l meta at) : Type 0 where
+  pub old_left : List ℕ
+  pub old_right : List ℕ
+  pub deep_is : s.around.deep ≡ old_left ++ old_right
+  pub stands : Stands (pages_after lsn (rs_of key path w i l meta at s) w.pages) w.tree.level w.root None None w.items
+      ((s.site.spot.left ++ (s.site.parent ∷ (s.site.parts.left ++ (s.site.page ∷ old_left)))) ++ (count_of meta ∷ (old_right ++ (s.site.parts.right ++ s.site.spot.right))))
+
+grown_nodes : (left : List ℕ) (p : ℕ) (fl : List ℕ) (c : ℕ) (ol : List ℕ) (n : ℕ) (or fr right : List ℕ)
+    → left ++ ((p ∷ (fl ++ ((c ∷ (ol ++ (n ∷ or))) ++ fr))) ++ right) ≡ (left ++ (p ∷ (fl ++ (c ∷ ol)))) ++ (n ∷ (or ++ (fr ++ right)))
+grown_nodes left p fl c ol n or fr right = simp append_assoc
+
+pub grown : (key : List ℕ) (path : List Image) (w : IsWayTo key path) (i l : ℕ) (meta : Image) (at lsn : ℕ) (s : Setting key path w i l meta at) → Grown key path w i l meta at lsn s
+grown key path w i l meta at lsn s =
+    let others : ℕ → Image = pages_after lsn (rs_of key path w i l meta at s) w.pages in
+    let st = s.site in
+    let ar = s.around in
+    let f = st.parts in
+    let new : ℕ = count_of meta in
+    let sep : List ℕ = separator (w.pages st.page) at in
+    let d = four_apart key path w i l meta at s in
+    let a = after_split key path w i l meta at lsn s in
+    let same = same_list key path w i l meta at lsn s in
+    let child : Stands w.pages l st.page f.lo f.hi f.mid f.own = subst (λ (c : ℕ). Stands w.pages l c f.lo f.hi f.mid f.own) st.child_is f.child in
+    let h : Halves others l st.page new f.lo f.hi sep f.mid f.own =
+    halves w.pages others l st.page new at f.lo f.hi f.mid f.own ar.deep child ar.own_is (same ar.deep ar.deep_nodes ar.deep_parent ar.deep_page) s.place a in
+    let e : others st.parent ≡ inserted (w.pages st.parent) (not_greater key (w.pages st.parent).items) (entry_of sep new) lsn = on_parent key (w.pages st.parent) (w.pages st.page) meta at lsn d in
+    let has = ap (λ (o : Image). o.items) e ∙ entry_joins st.xs st.entry (record { key = sep; child = new }) st.ys (w.pages st.parent).items (not_greater key (w.pages st.parent).items) st.inner.has st.behind in
+    let parent : Stands others (suc l) st.parent st.spot.lo st.spot.hi st.spot.mid (st.parent ∷ (f.left ++ ((h.left_nodes ++ h.right_nodes) ++ f.right))) =
+    parent_stands w.pages others l st.parent st.page new st.spot.lo st.spot.hi st.xs st.entry st.ys st.spot.mid st.below sep f st.inner h st.child_is
+        (same f.left ar.fl_nodes ar.fl_parent ar.fl_page) (same f.right ar.fr_nodes ar.fr_parent ar.fr_page)
+        (ap (λ (o : Image). o.kind) e ∙ st.inner.kind) (ap (λ (o : Image). o.page) e ∙ st.inner.number) (ap (λ (o : Image). o.level) e ∙ st.inner.height) has s.new_bound in
+    let built : Stands others w.tree.level w.root None None (st.spot.ahead ++ (st.spot.mid ++ st.spot.after)) (st.spot.left ++ ((st.parent ∷ (f.left ++ ((h.left_nodes ++ h.right_nodes) ++ f.right))) ++ st.spot.right)) =
+    st.spot.rebuild others st.spot.mid (st.parent ∷ (f.left ++ ((h.left_nodes ++ h.right_nodes) ++ f.right)))
+        (same st.spot.left ar.left_nodes ar.left_parent ar.left_page) (same st.spot.right ar.right_nodes ar.right_parent ar.right_page) parent in
+    let all : Stands others w.tree.level w.root None None w.items (st.spot.left ++ ((st.parent ∷ (f.left ++ ((h.left_nodes ++ h.right_nodes) ++ f.right))) ++ st.spot.right)) =
+    subst (λ (m : List (List ℕ)). Stands others w.tree.level w.root None None m (st.spot.left ++ ((st.parent ∷ (f.left ++ ((h.left_nodes ++ h.right_nodes) ++ f.right))) ++ st.spot.right))) (sym st.spot.items_are) built in
+    record {
+      old_left = h.old_left;
+      old_right = h.old_right;
+      deep_is = tail_same st.page ar.deep (h.old_left ++ h.old_right) (sym ar.own_is ∙ h.nodes_were);
+      stands = subst (λ (n : List ℕ). Stands others w.tree.level w.root None None w.items n)
+          (ap (λ (n : List ℕ). st.spot.left ++ ((st.parent ∷ (f.left ++ (n ++ f.right))) ++ st.spot.right)) h.nodes_are
+          ∙ grown_nodes st.spot.left st.parent f.left st.page h.old_left new h.old_right f.right st.spot.right) all;
+    }
+
+old_nodes : (left : List ℕ) (p : ℕ) (fl : List ℕ) (c : ℕ) (ol or fr right : List ℕ)
+    → left ++ ((p ∷ (fl ++ ((c ∷ (ol ++ or)) ++ fr))) ++ right) ≡ (left ++ (p ∷ (fl ++ (c ∷ ol)))) ++ (or ++ (fr ++ right))
+old_nodes left p fl c ol or fr right = simp append_assoc
+
+all_kinds : (key : List ℕ) (path : List Image) (w : IsWayTo key path) (i l : ℕ) (meta : Image) (at lsn : ℕ) (s : Setting key path w i l meta at) (nodes : List ℕ)
+    → AllByRecursion (IsNode w.pages) nodes → AllByRecursion (λ q. is_leaf (pages_after lsn (rs_of key path w i l meta at s) w.pages q).kind ≡ is_leaf (w.pages q).kind) nodes
+all_kinds key path w i l meta at lsn s nodes all =
+    all_weaker (IsNode w.pages) (λ q. is_leaf (pages_after lsn (rs_of key path w i l meta at s) w.pages q).kind ≡ is_leaf (w.pages q).kind)
+    (λ q n. ap is_leaf (kind_same key path w i l meta at lsn s q n)) nodes all
+
+all_nexts : (key : List ℕ) (path : List Image) (w : IsWayTo key path) (i l : ℕ) (meta : Image) (at lsn : ℕ) (s : Setting key path w i l meta at) (nodes : List ℕ)
+    → AllByRecursion (IsNode w.pages) nodes → AllByRecursion (λ q. q ≡ s.site.page → is_inner (w.pages s.site.page).kind ≡ true) nodes
+    → SameNext w.pages (pages_after lsn (rs_of key path w i l meta at s) w.pages) nodes
+all_nexts key path w i l meta at lsn s [] all inner = tt
+all_nexts key path w i l meta at lsn s (q ∷ nodes) all inner =
+    (next_same key path w i l meta at lsn s q all.0 inner.0, all_nexts key path w i l meta at lsn s nodes all.1 inner.1)
+
+all_such : {X : Type 0} (P : X → Type 0) → ((x : X) → P x) → (xs : List X) → AllByRecursion P xs
+all_such P f [] = tt
+all_such P f (x ∷ xs) = (f x, all_such P f xs)
+
+kept_leaf : (pages : ℕ → Image) (q : ℕ) (rest : List ℕ) → is_leaf (pages q).kind ≡ true → leaves_of pages (q ∷ rest) ≡ q ∷ leaves_of pages rest
+kept_leaf pages q rest e = rw e refl
+
+dropped_leaf : (pages : ℕ → Image) (q : ℕ) (rest : List ℕ) → is_leaf (pages q).kind ≡ false → leaves_of pages (q ∷ rest) ≡ leaves_of pages rest
+dropped_leaf pages q rest e = rw e refl
+
+leaves-append : (pages : ℕ → Image) (xs ys : List ℕ) → leaves_of pages (xs ++ ys) ≡ leaves_of pages xs ++ leaves_of pages ys
+leaves-append pages xs ys = filter-append (λ q. is_leaf (pages q).kind) xs ys
+
+-- an inner page is split: the leaves stay
+linked_inner : (key : List ℕ) (path : List Image) (w : IsWayTo key path) (i l : ℕ) (meta : Image) (at lsn : ℕ) (s : Setting key path w i l meta at)
+    → (w.pages s.site.page).kind ≡ Inner → (xs ys : List ℕ) → w.tree.nodes ≡ xs ++ ys
+    → Linked (pages_after lsn (rs_of key path w i l meta at s) w.pages) (leaves_of (pages_after lsn (rs_of key path w i l meta at s) w.pages) (xs ++ (count_of meta ∷ ys)))
+linked_inner key path w i l meta at lsn s kind xs ys are =
+    let others : ℕ → Image = pages_after lsn (rs_of key path w i l meta at s) w.pages in
+    let a = after_split key path w i l meta at lsn s in
+    let all : AllByRecursion (IsNode w.pages) (xs ++ ys) = subst (AllByRecursion (IsNode w.pages)) are s.around.all in
+    let linked : Linked w.pages (leaves_of w.pages (xs ++ ys)) = subst (λ (n : List ℕ). Linked w.pages (leaves_of w.pages n)) are w.tree.linked in
+    let no_leaf : is_leaf (others (count_of meta)).kind ≡ false = ap is_leaf (a.right_kind ∙ kind) in
+    let same : leaves_of others (xs ++ (count_of meta ∷ ys)) ≡ leaves_of w.pages (xs ++ ys) =
+    leaves-append others xs (count_of meta ∷ ys)
+        ∙ ap (λ (n : List ℕ). leaves_of others xs ++ n) (dropped_leaf others (count_of meta) ys no_leaf)
+        ∙ sym (leaves-append others xs ys)
+        ∙ filter_same (λ q. is_leaf (others q).kind) (λ q. is_leaf (w.pages q).kind) (xs ++ ys) (all_kinds key path w i l meta at lsn s (xs ++ ys) all) in
+    let nexts : SameNext w.pages others (xs ++ ys) =
+    all_nexts key path w i l meta at lsn s (xs ++ ys) all (all_such (λ q. q ≡ s.site.page → is_inner (w.pages s.site.page).kind ≡ true) (λ q e. ap is_inner kind) (xs ++ ys)) in
+    subst (Linked others) (sym same)
+    (linked_on_same w.pages others (leaves_of w.pages (xs ++ ys)) (all_filter (λ q. (others q).next ≡ (w.pages q).next) (λ q. is_leaf (w.pages q).kind) (xs ++ ys) nexts) linked)
+
+-- a leaf is split: the new leaf joins the others behind it
+linked_leaf : (key : List ℕ) (path : List Image) (w : IsWayTo key path) (i l : ℕ) (meta : Image) (at lsn : ℕ) (s : Setting key path w i l meta at)
+    → (w.pages s.site.page).kind ≡ Leaf → (xs ys : List ℕ) → w.tree.nodes ≡ xs ++ (s.site.page ∷ ys) → Without s.site.page xs → Without s.site.page ys
+    → Linked (pages_after lsn (rs_of key path w i l meta at s) w.pages) (leaves_of (pages_after lsn (rs_of key path w i l meta at s) w.pages) (xs ++ (s.site.page ∷ (count_of meta ∷ ys))))
+linked_leaf key path w i l meta at lsn s kind xs ys are wx wy =
+    let others : ℕ → Image = pages_after lsn (rs_of key path w i l meta at s) w.pages in
+    let page : ℕ = s.site.page in
+    let new : ℕ = count_of meta in
+    let a = after_split key path w i l meta at lsn s in
+    let all : AllByRecursion (IsNode w.pages) (xs ++ (page ∷ ys)) = subst (AllByRecursion (IsNode w.pages)) are s.around.all in
+    let nx = all_front (IsNode w.pages) xs (page ∷ ys) all in
+    let ny = (all_back (IsNode w.pages) xs (page ∷ ys) all).1 in
+    let linked0 : Linked w.pages (leaves_of w.pages (xs ++ (page ∷ ys))) = subst (λ (n : List ℕ). Linked w.pages (leaves_of w.pages n)) are w.tree.linked in
+    let linked : Linked w.pages (leaves_of w.pages xs ++ (page ∷ leaves_of w.pages ys)) =
+    subst (Linked w.pages) (leaves-append w.pages xs (page ∷ ys) ∙ ap (λ (n : List ℕ). leaves_of w.pages xs ++ n) (kept_leaf w.pages page ys (ap is_leaf kind))) linked0 in
+    let kinds = all_kinds key path w i l meta at lsn s in
+    let agree = filter_same (λ q. is_leaf (others q).kind) (λ q. is_leaf (w.pages q).kind) in
+    let now : leaves_of others (xs ++ (page ∷ (new ∷ ys))) ≡ leaves_of w.pages xs ++ (page ∷ (new ∷ leaves_of w.pages ys)) =
+    leaves-append others xs (page ∷ (new ∷ ys))
+        ∙ ap (λ (n : List ℕ). leaves_of others xs ++ n)
+            (kept_leaf others page (new ∷ ys) (ap is_leaf (a.left_kind ∙ kind)) ∙ ap (λ (n : List ℕ). page ∷ n) (kept_leaf others new ys (ap is_leaf (a.right_kind ∙ kind))))
+        ∙ ap (λ (n : List ℕ). n ++ (page ∷ (new ∷ leaves_of others ys))) (agree xs (kinds xs nx))
+        ∙ ap (λ (n : List ℕ). leaves_of w.pages xs ++ (page ∷ (new ∷ n))) (agree ys (kinds ys ny)) in
+    let P = λ (q : ℕ). q ≡ page → is_inner (w.pages page).kind ≡ true in
+    let sx : SameNext w.pages others xs = all_nexts key path w i l meta at lsn s xs nx (all_weaker (λ q. q ≢ page) P (λ q h e. absurd (h e)) xs wx) in
+    let sy : SameNext w.pages others ys = all_nexts key path w i l meta at lsn s ys ny (all_weaker (λ q. q ≢ page) P (λ q h e. absurd (h e)) ys wy) in
+    let F = λ (q : ℕ). (others q).next ≡ (w.pages q).next in
+    let some : 0 < new = (let ne = new_not_meta key path w i l meta at s in let z = s.is_meta.number in positive new meta.page ne z) in
+    subst (Linked others) (sym now)
+    (linked_more w.pages others (leaves_of w.pages xs) page new (leaves_of w.pages ys) linked (a.left_next (ap is_inner kind)) some a.right_next
+    (all_filter F (λ q. is_leaf (w.pages q).kind) xs sx) (all_filter F (λ q. is_leaf (w.pages q).kind) ys sy))
+  where
+    positive : (n m : ℕ) → n ≢ m → m ≡ 0 → 0 < n
+    positive zero m ne e = absurd (ne (sym e))
+    positive (suc n) m ne e = omega arith
