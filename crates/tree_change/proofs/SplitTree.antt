@@ -8,6 +8,7 @@ use Rattle.std.proofs.lemmas.Bool.Decides.{eqb_tells}
 use Rattle.page_image.specs.declared.kind.Kind.{Kind}
 use Rattle.page_image.specs.declared.kind.Kind.TheVariants.{Unmade, Meta, Leaf, Inner}
 use Rattle.page_image.specs.Image.{Image, unmade, is_inner, inserted, cut_from, linked}
+use Rattle.page_view.specs.declared.leaf.TheConstants.{LONGEST_KEY}
 use Rattle.page_view.specs.Inner.{InnerItem, inner_bytes, IsInner}
 use Rattle.page_view.specs.Keys.{key_in, keys_of}
 use Rattle.redo_record.specs.declared.redo.Record.{Record}
@@ -336,6 +337,7 @@ pub record Grown (key : List ℕ) (path : List Image) (w : IsWayTo key path) (i 
   pub old_left : List ℕ
   pub old_right : List ℕ
   pub deep_is : s.around.deep ≡ old_left ++ old_right
+  pub short : length (separator (w.pages s.site.page) at) ≤ LONGEST_KEY
   pub stands : Stands (pages_after lsn (rs_of key path w i l meta at s) w.pages) w.tree.level w.root None None w.items
       ((s.site.spot.left ++ (s.site.parent ∷ (s.site.parts.left ++ (s.site.page ∷ old_left)))) ++ (count_of meta ∷ (old_right ++ (s.site.parts.right ++ s.site.spot.right))))
 
@@ -371,6 +373,7 @@ grown key path w i l meta at lsn s =
     record {
       old_left = h.old_left;
       old_right = h.old_right;
+      short = h.short;
       deep_is = tail_same st.page ar.deep (h.old_left ++ h.old_right) (sym ar.own_is ∙ h.nodes_were);
       stands = subst (λ (n : List ℕ). Stands others w.tree.level w.root None None w.items n)
           (ap (λ (n : List ℕ). st.spot.left ++ ((st.parent ∷ (f.left ++ (n ++ f.right))) ++ st.spot.right)) h.nodes_are
@@ -462,3 +465,71 @@ linked_leaf key path w i l meta at lsn s kind xs ys are wx wy =
     positive : (n m : ℕ) → n ≢ m → m ≡ 0 → 0 < n
     positive zero m ne e = absurd (ne (sym e))
     positive (suc n) m ne e = omega arith
+
+empty_parts : (xs ys : List ℕ) → [] ≡ xs ++ ys → (xs ≡ []) × (ys ≡ [])
+empty_parts [] ys e = (refl, sym e)
+empty_parts (x ∷ xs) ys e = cc
+
+leaf_nodes : (left : List ℕ) (p : ℕ) (fl : List ℕ) (c : ℕ) (fr right : List ℕ) → (left ++ (p ∷ (fl ++ (c ∷ [])))) ++ (fr ++ right) ≡ (left ++ (p ∷ fl)) ++ (c ∷ (fr ++ right))
+leaf_nodes left p fl c fr right = simp append_assoc
+
+leaf_nodes_new : (left : List ℕ) (p : ℕ) (fl : List ℕ) (c n : ℕ) (fr right : List ℕ) → (left ++ (p ∷ (fl ++ (c ∷ [])))) ++ (n ∷ (fr ++ right)) ≡ (left ++ (p ∷ fl)) ++ (c ∷ (n ∷ (fr ++ right)))
+leaf_nodes_new left p fl c n fr right = simp append_assoc
+
+nodes_before : (key : List ℕ) (path : List Image) (w : IsWayTo key path) (i l : ℕ) (meta : Image) (at lsn : ℕ) (s : Setting key path w i l meta at) (g : Grown key path w i l meta at lsn s)
+    → w.tree.nodes ≡ (s.site.spot.left ++ (s.site.parent ∷ (s.site.parts.left ++ (s.site.page ∷ g.old_left)))) ++ (g.old_right ++ (s.site.parts.right ++ s.site.spot.right))
+nodes_before key path w i l meta at lsn s g =
+    s.around.nodes_are
+    ∙ ap (λ (d : List ℕ). s.site.spot.left ++ ((s.site.parent ∷ (s.site.parts.left ++ ((s.site.page ∷ d) ++ s.site.parts.right))) ++ s.site.spot.right)) g.deep_is
+    ∙ old_nodes s.site.spot.left s.site.parent s.site.parts.left s.site.page g.old_left g.old_right s.site.parts.right s.site.spot.right
+
+linked_after : (key : List ℕ) (path : List Image) (w : IsWayTo key path) (i l : ℕ) (meta : Image) (at lsn : ℕ) (s : Setting key path w i l meta at) (g : Grown key path w i l meta at lsn s)
+    → Linked (pages_after lsn (rs_of key path w i l meta at s) w.pages) (leaves_of (pages_after lsn (rs_of key path w i l meta at s) w.pages)
+        ((s.site.spot.left ++ (s.site.parent ∷ (s.site.parts.left ++ (s.site.page ∷ g.old_left)))) ++ (count_of meta ∷ (g.old_right ++ (s.site.parts.right ++ s.site.spot.right)))))
+linked_after key path w i zero meta at lsn s g =
+    let st = s.site in
+    let ar = s.around in
+    let others : ℕ → Image = pages_after lsn (rs_of key path w i zero meta at s) w.pages in
+    let child : Stands w.pages zero st.page st.parts.lo st.parts.hi st.parts.mid st.parts.own = subst (λ (c : ℕ). Stands w.pages zero c st.parts.lo st.parts.hi st.parts.mid st.parts.own) st.child_is st.parts.child in
+    let deep : [] ≡ ar.deep = tail_same st.page [] ar.deep (sym child.1 ∙ ar.own_is) in
+    let empty = empty_parts g.old_left g.old_right (deep ∙ g.deep_is) in
+    let before0 = nodes_before key path w i zero meta at lsn s g in
+    let X = λ (ol or : List ℕ). (st.spot.left ++ (st.parent ∷ (st.parts.left ++ (st.page ∷ ol)))) ++ (or ++ (st.parts.right ++ st.spot.right)) in
+    let before : w.tree.nodes ≡ (st.spot.left ++ (st.parent ∷ st.parts.left)) ++ (st.page ∷ (st.parts.right ++ st.spot.right)) =
+    before0 ∙ ap (λ (n : List ℕ). X n g.old_right) empty.0 ∙ ap (λ (n : List ℕ). X [] n) empty.1
+        ∙ leaf_nodes st.spot.left st.parent st.parts.left st.page st.parts.right st.spot.right in
+    let Z = λ (ol or : List ℕ). (st.spot.left ++ (st.parent ∷ (st.parts.left ++ (st.page ∷ ol)))) ++ (count_of meta ∷ (or ++ (st.parts.right ++ st.spot.right))) in
+    let now : Z g.old_left g.old_right ≡ (st.spot.left ++ (st.parent ∷ st.parts.left)) ++ (st.page ∷ (count_of meta ∷ (st.parts.right ++ st.spot.right))) =
+    ap (λ (n : List ℕ). Z n g.old_right) empty.0 ∙ ap (λ (n : List ℕ). Z [] n) empty.1
+        ∙ leaf_nodes_new st.spot.left st.parent st.parts.left st.page (count_of meta) st.parts.right st.spot.right in
+    let C = λ (q : ℕ). q ≢ st.page in
+    subst (λ (n : List ℕ). Linked others (leaves_of others n)) (sym now)
+    (linked_leaf key path w i zero meta at lsn s child.0.kind (st.spot.left ++ (st.parent ∷ st.parts.left)) (st.parts.right ++ st.spot.right) before
+    (all_join C st.spot.left (st.parent ∷ st.parts.left) ar.left_page (ar.apart, ar.fl_page))
+    (all_join C st.parts.right st.spot.right ar.fr_page ar.right_page))
+linked_after key path w i (suc m) meta at lsn s g =
+    let st = s.site in
+    let child : Stands w.pages (suc m) st.page st.parts.lo st.parts.hi st.parts.mid st.parts.own = subst (λ (c : ℕ). Stands w.pages (suc m) c st.parts.lo st.parts.hi st.parts.mid st.parts.own) st.child_is st.parts.child in
+    linked_inner key path w i (suc m) meta at lsn s child.2.kind
+    (st.spot.left ++ (st.parent ∷ (st.parts.left ++ (st.page ∷ g.old_left)))) (g.old_right ++ (st.parts.right ++ st.spot.right))
+    (nodes_before key path w i (suc m) meta at lsn s g)
+
+pub split_tree : (key : List ℕ) (path : List Image) (w : IsWayTo key path) (i l : ℕ) (meta : Image) (at lsn : ℕ) (s : Setting key path w i l meta at)
+    → Tree (pages_after lsn (rs_of key path w i l meta at s) w.pages) w.root w.items
+split_tree key path w i l meta at lsn s =
+    let st = s.site in
+    let g = grown key path w i l meta at lsn s in
+    let xs : List ℕ = st.spot.left ++ (st.parent ∷ (st.parts.left ++ (st.page ∷ g.old_left))) in
+    let ys : List ℕ = g.old_right ++ (st.parts.right ++ st.spot.right) in
+    let before : w.tree.nodes ≡ xs ++ ys = nodes_before key path w i l meta at lsn s g in
+    let all : AllByRecursion (IsNode w.pages) (xs ++ ys) = subst (AllByRecursion (IsNode w.pages)) before s.around.all in
+    let new : Without (count_of meta) (xs ++ ys) =
+    all_weaker (IsNode w.pages) (λ q. q ≢ count_of meta) (λ q n e. unmade_apart w.pages (count_of meta) q (kind_of_new key path w i l meta at s) n (sym e)) (xs ++ ys) all in
+    record {
+      level = w.tree.level;
+      nodes = xs ++ (count_of meta ∷ ys);
+      low_enough = w.tree.low_enough;
+      stands = g.stands;
+      linked = linked_after key path w i l meta at lsn s g;
+      apart = distinct_more xs ys (count_of meta) (subst (IsDistinct nat_eq) before w.tree.apart) new;
+    }
