@@ -20,3 +20,4 @@ pub mod SplitEffects
 pub mod SiteLaws
 pub mod LinkLaws
 pub mod SplitTree
+pub mod SplitKeeps
