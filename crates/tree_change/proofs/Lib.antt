@@ -21,3 +21,4 @@ pub mod SiteLaws
 pub mod LinkLaws
 pub mod SplitTree
 pub mod SplitKeeps
+pub mod FullLaws

@@ -10,4 +10,5 @@ mod root_splitting;
 mod spelling;
 mod splitting;
 
+pub use splitting::plan_split;
 pub use changing::{plan_insert, plan_mark, plan_remove, plan_update};

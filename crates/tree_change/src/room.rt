@@ -1,6 +1,7 @@
 //! Which pages have room for a change.
 ghost use Rattle.std.specs.Prelude.{◌≡◌, ◌≤◌, ◌-◌, length};
 ghost use Rattle.page_image.specs.Image.{used};
+ghost use Rattle.page_image.specs.Rules.{IsImage};
 ghost use Rattle.page_view.specs.Leaf.{IsLeaf};
 ghost use Rattle.tree_change.specs.Places.{with_key};
 ghost use Rattle.tree_change.specs.Room as spec;
@@ -57,6 +58,13 @@ pub(crate) fn lacks_room(page: &Page, item: &LeafItem) -> bool
 /// The items of a page fit it. It does nothing when it is run.
 pub(crate) fn items_fit(page: &Page)
     ensures { used page.now.items ≤ PAGE_BYTES - HEADER_BYTES }
+{
+    let _bytes = page.bytes();
+}
+
+/// A page keeps the rules of pages. It does nothing when it is run.
+pub(crate) fn keeps_rules(page: &Page)
+    ensures { IsImage page.now }
 {
     let _bytes = page.bytes();
 }

@@ -6,12 +6,13 @@ ghost use Rattle.tree_change.specs.Places.{page_on};
 ghost use Rattle.tree_change.specs.Room.{lacks_room};
 ghost use Rattle.tree_change.specs.Pages.{HasChildren, IsTreePage};
 ghost use Rattle.tree_change.specs.Way.{IsWayTo};
-ghost use Rattle.tree_change.specs.Splits.{count_of, inserts, right_half, linked_on, linked_to, split_plan, split_of, made_right, IsHeavy, IsSplitPlace, IsFirstFull, IsFirstFullOrNone, IsSplit};
+ghost use Rattle.tree_change.specs.Effects.{Keeps};
+ghost use Rattle.tree_change.specs.Splits.{count_of, inserts, right_half, linked_on, linked_to, split_plan, split_of, made_right, IsHeavy, IsSplitPlace, IsFirstFull, IsFirstFullOrNone, IsSplit, IsMeta};
 
 use crate::counting::{count_of, push_count};
 use crate::halves::{move_right_half, separator, split_place};
 use crate::places::place_behind;
-use crate::room::lacks_room;
+use crate::room::{keeps_rules, lacks_room};
 use crate::spelling::inner_item_bytes;
 use page_image::{Kind, Page};
 use page_view::LeafItem;
@@ -147,4 +148,38 @@ fn first_full(path: &[Page], item: &LeafItem) -> Option<usize>
         }
     }
     None
+}
+
+/// The place above the first page of the path with too little room, which is not the root.
+fn above_full(path: &[Page], item: &LeafItem) -> usize
+    requires pages { (i : ℕ) → i < length path.now → IsTreePage (page_on path.now i) }
+    requires item { IsLeaf item.now }
+    requires full { (above : ℕ) × IsFirstFull item.now path.now (above + 1) }
+    ensures { IsFirstFull item.now path.now (result + 1) }
+{
+    let at = first_full(path, item).unwrap();
+    at - 1
+}
+
+/// The plan that splits the first page with too little room, which is not the root, on the way of the
+/// item's change. SpaceFull exactly where the meta page counts 32,768 pages or more.
+pub fn plan_split(
+    alloc: Global,
+    path: &Path,
+    meta: &Page,
+    item: &LeafItem,
+) -> Result<Result<Plan, TreeNo>, WantOfMemory>
+    requires way { IsWayTo item.now.key path.now }
+    requires item { IsLeaf item.now }
+    requires full { (above : ℕ) × IsFirstFull item.now path.now (above + 1) }
+    requires meta { IsMeta meta.now }
+    ensures room { IfOk result (λ answer. IsOk answer ↔ (count_of meta.now ≤ 32767)) }
+    ensures no { IfOk result (λ answer. IfErr answer (λ no. no ≡ TreeNo.SpaceFull)) }
+    ensures plan { IfOk result (λ answer. IfOk answer (λ plan. IsSplit item.now path.now meta.now plan)) }
+    ensures keeps { IfOk result (λ answer. IfOk answer (λ plan. Keeps item.now.key path.now meta.now plan)) }
+{
+    let pages = path.as_slice();
+    let above = above_full(pages, item);
+    keeps_rules(&pages[above + 1]);
+    split_below(alloc, &pages[above], &pages[above + 1], meta, item)
 }
