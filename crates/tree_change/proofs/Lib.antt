@@ -22,3 +22,4 @@ pub mod LinkLaws
 pub mod SplitTree
 pub mod SplitKeeps
 pub mod FullLaws
+pub mod RootEffects

@@ -249,7 +249,7 @@ apply_page key parent page meta at lsn d s b within =
     (other_apply lsn (InsertSlot parent.page n entry) (counts meta (new + 1) ∷ []) (cut_from one at lsn) (λ e. d.ab (e ∙ number))
     (other_apply lsn (counts meta (new + 1)) [] (cut_from one at lsn) (λ e. d.bd (sym (e ∙ number))) tt)))))
 
-can_count : (meta : Image) (n : ℕ) → meta.kind ≡ Meta → CanPatch meta COUNT_AT (field 4 n)
+pub can_count : (meta : Image) (n : ℕ) → meta.kind ≡ Meta → CanPatch meta COUNT_AT (field 4 n)
 can_count meta n e =
     let long = length-field 4 n in
     record { fields = ap has_body e; past_header = omega arith; within = omega (arith, long) }

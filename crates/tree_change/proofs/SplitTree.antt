@@ -151,6 +151,29 @@ pub record After (others : ℕ → Image) (im : Image) (page new at : ℕ) : Typ
   pub right_items : (others new).items ≡ right_half im at
   pub right_next : (others new).next ≡ im.next
 
+-- the same, without their links
+pub record Halved (others : ℕ → Image) (im : Image) (page new at : ℕ) : Type 0 where
+  pub left_kind : (others page).kind ≡ im.kind
+  pub left_number : (others page).page ≡ page
+  pub left_level : (others page).level ≡ im.level
+  pub left_items : (others page).items ≡ take at im.items
+  pub right_kind : (others new).kind ≡ im.kind
+  pub right_number : (others new).page ≡ new
+  pub right_level : (others new).level ≡ im.level
+  pub right_items : (others new).items ≡ right_half im at
+
+pub halved : (others : ℕ → Image) (im : Image) (page new at : ℕ) → im.page ≡ page → After others im page new at → Halved others im page new at
+halved others im page new at number a = record {
+  left_kind = a.left_kind;
+  left_number = a.left_number ∙ number;
+  left_level = a.left_level;
+  left_items = a.left_items;
+  right_kind = a.right_kind;
+  right_number = a.right_number;
+  right_level = a.right_level;
+  right_items = a.right_items;
+}
+
 cut_linked : (im : Image) (new at lsn : ℕ) (om : Image) → om ≡ cut_from (linked_page im new lsn) at lsn
     → (om.kind ≡ im.kind) × (om.page ≡ im.page) × (om.level ≡ im.level) × (om.items ≡ take at im.items) × (is_inner im.kind ≡ false → om.next ≡ new) × (is_inner im.kind ≡ true → om.next ≡ im.next)
 cut_linked im new at lsn om e = by_test (is_inner im.kind) refl
@@ -251,7 +274,7 @@ cut_items im at x us y vs kind has count =
     }
 
 leaf_halves : (pages others : ℕ → Image) (page new at : ℕ) (lo hi : Option (List ℕ)) (mid : List (List ℕ)) (own : List ℕ)
-    → Stands pages zero page lo hi mid own → IsSplitPlace (pages page).items at → After others (pages page) page new at
+    → Stands pages zero page lo hi mid own → IsSplitPlace (pages page).items at → Halved others (pages page) page new at
     → Halves others zero page new lo hi (separator (pages page) at) mid own
 leaf_halves pages others page new at lo hi mid own h place a =
     let im : Image = pages page in
@@ -262,7 +285,7 @@ leaf_halves pages others page new at lo hi mid own h place a =
     let right : right_half im at ≡ c.b ∷ c.back = (rw outer c.dropped) in
     let built : Halves others zero page new lo hi (key_in c.b) ((c.a ∷ c.front) ++ (c.b ∷ c.back)) (page ∷ []) =
     leaf_parts others page new lo hi c.a c.front c.b c.back im leaf
-        (a.left_kind ∙ h.0.kind) (a.left_number ∙ h.0.number) (a.left_items ∙ c.taken) (a.right_kind ∙ h.0.kind) a.right_number (a.right_items ∙ right) in
+        (a.left_kind ∙ h.0.kind) a.left_number (a.left_items ∙ c.taken) (a.right_kind ∙ h.0.kind) a.right_number (a.right_items ∙ right) in
     let sep : key_in c.b ≡ separator im at = ap key_in (sym c.here) in
     subst (λ (n : List ℕ). Halves others zero page new lo hi (separator im at) mid n) (sym h.1)
     (subst (λ (m : List (List ℕ)). Halves others zero page new lo hi (separator im at) m (page ∷ [])) (sym mid_is)
@@ -272,7 +295,7 @@ tail_same : (p : ℕ) (xs ys : List ℕ) → p ∷ xs ≡ p ∷ ys → xs ≡ ys
 tail_same p xs ys e = cc
 
 inner_halves : (pages others : ℕ → Image) (m page new at : ℕ) (lo hi : Option (List ℕ)) (mid : List (List ℕ)) (own deep : List ℕ)
-    → Stands pages (suc m) page lo hi mid own → own ≡ page ∷ deep → SameAt pages others deep → IsSplitPlace (pages page).items at → After others (pages page) page new at
+    → Stands pages (suc m) page lo hi mid own → own ≡ page ∷ deep → SameAt pages others deep → IsSplitPlace (pages page).items at → Halved others (pages page) page new at
     → Halves others (suc m) page new lo hi (separator (pages page) at) mid own
 inner_halves pages others m page new at lo hi mid own deep h own_is same place a =
     let im : Image = pages page in
@@ -286,13 +309,13 @@ inner_halves pages others m page new at lo hi mid own deep h own_is same place a
     let items = cut_items im at c.x c.us c.y c.vs ip.kind ip'.has c.count in
     let built : Halves others (suc m) page new lo hi c.y.key mid (page ∷ h.1) =
     inner_parts pages others m page new lo hi c.x c.us c.y c.vs mid h.1 im ip' parts (subst (SameAt pages others) deep_is same)
-        (a.left_kind ∙ ip.kind) (a.left_number ∙ ip.number) (a.left_level ∙ ip.height) (a.left_items ∙ items.taken)
+        (a.left_kind ∙ ip.kind) a.left_number (a.left_level ∙ ip.height) (a.left_items ∙ items.taken)
         (a.right_kind ∙ ip.kind) a.right_number (a.right_level ∙ ip.height) (a.right_items ∙ items.right) in
     subst (λ (n : List ℕ). Halves others (suc m) page new lo hi (separator im at) mid n) (sym h.4)
     (subst (λ (k : List ℕ). Halves others (suc m) page new lo hi k mid (page ∷ h.1)) (sym items.sep) built)
 
 pub halves : (pages others : ℕ → Image) (l page new at : ℕ) (lo hi : Option (List ℕ)) (mid : List (List ℕ)) (own deep : List ℕ)
-    → Stands pages l page lo hi mid own → own ≡ page ∷ deep → SameAt pages others deep → IsSplitPlace (pages page).items at → After others (pages page) page new at
+    → Stands pages l page lo hi mid own → own ≡ page ∷ deep → SameAt pages others deep → IsSplitPlace (pages page).items at → Halved others (pages page) page new at
     → Halves others l page new lo hi (separator (pages page) at) mid own
 halves pages others zero page new at lo hi mid own deep h own_is same place a = leaf_halves pages others page new at lo hi mid own h place a
 halves pages others (suc m) page new at lo hi mid own deep h own_is same place a = inner_halves pages others m page new at lo hi mid own deep h own_is same place a
@@ -358,7 +381,8 @@ grown key path w i l meta at lsn s =
     let same = same_list key path w i l meta at lsn s in
     let child : Stands w.pages l st.page f.lo f.hi f.mid f.own = subst (λ (c : ℕ). Stands w.pages l c f.lo f.hi f.mid f.own) st.child_is f.child in
     let h : Halves others l st.page new f.lo f.hi sep f.mid f.own =
-    halves w.pages others l st.page new at f.lo f.hi f.mid f.own ar.deep child ar.own_is (same ar.deep ar.deep_nodes ar.deep_parent ar.deep_page) s.place a in
+    halves w.pages others l st.page new at f.lo f.hi f.mid f.own ar.deep child ar.own_is (same ar.deep ar.deep_nodes ar.deep_parent ar.deep_page) s.place
+        (halved others (w.pages st.page) st.page new at ar.page_node.number a) in
     let e : others st.parent ≡ inserted (w.pages st.parent) (not_greater key (w.pages st.parent).items) (entry_of sep new) lsn = on_parent key (w.pages st.parent) (w.pages st.page) meta at lsn d in
     let has = ap (λ (o : Image). o.items) e ∙ entry_joins st.xs st.entry (record { key = sep; child = new }) st.ys (w.pages st.parent).items (not_greater key (w.pages st.parent).items) st.inner.has st.behind in
     let parent : Stands others (suc l) st.parent st.spot.lo st.spot.hi st.spot.mid (st.parent ∷ (f.left ++ ((h.left_nodes ++ h.right_nodes) ++ f.right))) =
