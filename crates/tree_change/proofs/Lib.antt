@@ -23,3 +23,4 @@ pub mod SplitTree
 pub mod SplitKeeps
 pub mod FullLaws
 pub mod RootEffects
+pub mod RootTree

@@ -291,7 +291,7 @@ leaf_halves pages others page new at lo hi mid own h place a =
     (subst (λ (m : List (List ℕ)). Halves others zero page new lo hi (separator im at) m (page ∷ [])) (sym mid_is)
     (subst (λ (k : List ℕ). Halves others zero page new lo hi k ((c.a ∷ c.front) ++ (c.b ∷ c.back)) (page ∷ [])) sep built))
 
-tail_same : (p : ℕ) (xs ys : List ℕ) → p ∷ xs ≡ p ∷ ys → xs ≡ ys
+pub tail_same : (p : ℕ) (xs ys : List ℕ) → p ∷ xs ≡ p ∷ ys → xs ≡ ys
 tail_same p xs ys e = cc
 
 inner_halves : (pages others : ℕ → Image) (m page new at : ℕ) (lo hi : Option (List ℕ)) (mid : List (List ℕ)) (own deep : List ℕ)
@@ -421,17 +421,17 @@ all_nexts key path w i l meta at lsn s [] all inner = tt
 all_nexts key path w i l meta at lsn s (q ∷ nodes) all inner =
     (next_same key path w i l meta at lsn s q all.0 inner.0, all_nexts key path w i l meta at lsn s nodes all.1 inner.1)
 
-all_such : {X : Type 0} (P : X → Type 0) → ((x : X) → P x) → (xs : List X) → AllByRecursion P xs
+pub all_such : {X : Type 0} (P : X → Type 0) → ((x : X) → P x) → (xs : List X) → AllByRecursion P xs
 all_such P f [] = tt
 all_such P f (x ∷ xs) = (f x, all_such P f xs)
 
-kept_leaf : (pages : ℕ → Image) (q : ℕ) (rest : List ℕ) → is_leaf (pages q).kind ≡ true → leaves_of pages (q ∷ rest) ≡ q ∷ leaves_of pages rest
+pub kept_leaf : (pages : ℕ → Image) (q : ℕ) (rest : List ℕ) → is_leaf (pages q).kind ≡ true → leaves_of pages (q ∷ rest) ≡ q ∷ leaves_of pages rest
 kept_leaf pages q rest e = rw e refl
 
-dropped_leaf : (pages : ℕ → Image) (q : ℕ) (rest : List ℕ) → is_leaf (pages q).kind ≡ false → leaves_of pages (q ∷ rest) ≡ leaves_of pages rest
+pub dropped_leaf : (pages : ℕ → Image) (q : ℕ) (rest : List ℕ) → is_leaf (pages q).kind ≡ false → leaves_of pages (q ∷ rest) ≡ leaves_of pages rest
 dropped_leaf pages q rest e = rw e refl
 
-leaves-append : (pages : ℕ → Image) (xs ys : List ℕ) → leaves_of pages (xs ++ ys) ≡ leaves_of pages xs ++ leaves_of pages ys
+pub leaves-append : (pages : ℕ → Image) (xs ys : List ℕ) → leaves_of pages (xs ++ ys) ≡ leaves_of pages xs ++ leaves_of pages ys
 leaves-append pages xs ys = filter-append (λ q. is_leaf (pages q).kind) xs ys
 
 -- an inner page is split: the leaves stay
@@ -490,7 +490,7 @@ linked_leaf key path w i l meta at lsn s kind xs ys are wx wy =
     positive zero m ne e = absurd (ne (sym e))
     positive (suc n) m ne e = omega arith
 
-empty_parts : (xs ys : List ℕ) → [] ≡ xs ++ ys → (xs ≡ []) × (ys ≡ [])
+pub empty_parts : (xs ys : List ℕ) → [] ≡ xs ++ ys → (xs ≡ []) × (ys ≡ [])
 empty_parts [] ys e = (refl, sym e)
 empty_parts (x ∷ xs) ys e = cc
 
