@@ -2,12 +2,21 @@
 ghost use Rattle.std.specs.Prelude.{◌≡◌, ◌≤◌, ◌<◌, ◌+◌, length, slice_index};
 ghost use Rattle.page_view.specs.Keys.{keys_of, IsFound, IsChildFor};
 ghost use Rattle.page_view.specs.Keys as keys;
-ghost use Rattle.tree_change.specs.Places.{lesser, not_greater, leaf_on};
+ghost use Rattle.tree_change.specs.Places.{lesser, not_greater, page_on, leaf_on};
 ghost use Rattle.tree_change.specs.Pages.{HasRows, HasChildren};
 
 use page_image::Page;
 use page_view::{InnerView, LeafView};
 use redo_record::Path;
+
+/// The first page of a path.
+pub(crate) fn root_of(path: &Path) -> &Page
+    requires { 0 < length path.now }
+    ensures { result.now ≡ page_on path.now 0 }
+{
+    let pages = path.as_slice();
+    &pages[0]
+}
 
 /// The last page of a path.
 pub(crate) fn leaf_of(path: &Path) -> &Page

@@ -5,15 +5,19 @@ ghost use Rattle.redo_record.specs.declared.plans.Plan.{Plan};
 ghost use Rattle.tree_change.specs.Places.{page_on};
 ghost use Rattle.tree_change.specs.Room.{lacks_room};
 ghost use Rattle.tree_change.specs.Pages.{IsTreePage};
-ghost use Rattle.tree_change.specs.Splits.{count_of, root_split_plan, made_halves, made_root, IsHeavy, IsSplitPlace};
+ghost use Rattle.tree_change.specs.Way.{IsWayTo};
+ghost use Rattle.tree_change.specs.Effects.{Keeps};
+ghost use Rattle.tree_change.specs.Splits.{count_of, root_split_plan, made_halves, made_root, IsHeavy, IsSplitPlace, IsRootSplit, IsMeta};
 
 use crate::counting::{count_of, push_count};
 use crate::halves::{move_items, move_right_half, separator, split_place};
+use crate::places::root_of;
+use crate::room::keeps_rules;
 use crate::spelling::inner_item_bytes;
 use crate::splitting::{push_linked_to, split_of};
 use page_image::{Kind, Page};
 use page_view::LeafItem;
-use redo_record::{Plan, Record, Records, TreeNo};
+use redo_record::{Path, Plan, Record, Records, TreeNo};
 use rm_base::{PageId, WantOfMemory};
 use std::alloc::Global;
 
@@ -113,4 +117,27 @@ pub(crate) fn split_root(
     push_count(alloc, &mut records, meta, right.number() + 1)?;
     let pages = [root.page(), left, right, meta.page()];
     Ok(Ok(split_of(&pages, &[left, right], records)))
+}
+
+/// The plan that splits the root, which has too little room for the item's change and a level below 8.
+/// SpaceFull exactly where the meta page counts 32,767 pages or more.
+pub fn plan_root_split(
+    alloc: Global,
+    path: &Path,
+    meta: &Page,
+    item: &LeafItem,
+) -> Result<Result<Plan, TreeNo>, WantOfMemory>
+    requires way { IsWayTo item.now.key path.now }
+    requires item { IsLeaf item.now }
+    requires full { lacks_room item.now (page_on path.now 0) ≡ true }
+    requires low { (page_on path.now 0).level < 8 }
+    requires meta { IsMeta meta.now }
+    ensures room { IfOk result (λ answer. IsOk answer ↔ (count_of meta.now + 1 ≤ 32767)) }
+    ensures no { IfOk result (λ answer. IfErr answer (λ no. no ≡ TreeNo.SpaceFull)) }
+    ensures plan { IfOk result (λ answer. IfOk answer (λ plan. IsRootSplit path.now meta.now plan)) }
+    ensures keeps { IfOk result (λ answer. IfOk answer (λ plan. Keeps item.now.key path.now meta.now plan)) }
+{
+    let root = root_of(path);
+    keeps_rules(root);
+    split_root(alloc, root, meta, item)
 }
