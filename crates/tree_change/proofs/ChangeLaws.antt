@@ -170,15 +170,15 @@ absent_place key im h no_key =
     elim (placed (keys_of im.items) key h.ascend) [
       | inl found ↦ absurd (no_key found)
       | inr p ↦ (
-          p.0,
-          record {
-            within = (let le = p.1 in omega (arith, long, le));
-            is = lesser_absent key im.items p.0 p.1 p.2 p.3;
-            front = absent_before key im.items p.0 (let le = p.1 in omega (arith, long, le)) p.2 p.3;
-            back = absent_behind key im.items p.0 p.2 p.3;
-            none = with_key_absent key im.items p.0 p.2 p.3;
-          },
-        )
+        p.0,
+        record {
+          within = (let le = p.1 in omega (arith, long, le));
+          is = lesser_absent key im.items p.0 p.1 p.2 p.3;
+          front = absent_before key im.items p.0 (let le = p.1 in omega (arith, long, le)) p.2 p.3;
+          back = absent_behind key im.items p.0 p.2 p.3;
+          none = with_key_absent key im.items p.0 p.2 p.3;
+        },
+      )
     ]
 
 pub inserted_is : (key item : List ℕ) (items : List (List ℕ)) (n : ℕ) → IsPlace key items n → insert items (lesser key items) item ≡ with_item key item items
@@ -207,7 +207,7 @@ insert_leaf im page lsn low high items item h is no_key rows f b =
     let r : Record = InsertSlot im.page (lesser item.key im.items) (leaf_bytes item) in
     let done : IsLeafPage (inserted im (lesser item.key im.items) (leaf_bytes item) lsn) page low high (with_item item.key (leaf_bytes item) items) =
     leaf_with im (inserted im (lesser item.key im.items) (leaf_bytes item) lsn) page low high items item.key (leaf_bytes item) h refl refl
-        (inserted_is item.key (leaf_bytes item) im.items p.0 p.1) (leaf_holds item is) (key_of_leaf item) f b in
+    (inserted_is item.key (leaf_bytes item) im.items p.0 p.1) (leaf_holds item is) (key_of_leaf item) f b in
     subst (λ (om : Image). IsLeafPage om page low high (with_item item.key (leaf_bytes item) items)) (sym (step_own r lsn im refl)) done
 
 insert_rows : (im : Image) (item : LeafItem) (page : ℕ) → im.page ≡ page → AllByRecursion (ChangesItems page) (insert_plan im item).records
@@ -353,7 +353,7 @@ update_leaf im page lsn low high items item h is found rows f b =
     let om = inserted (removed im place lsn) place (leaf_bytes item) lsn in
     let done : IsLeafPage om page low high (with_item item.key (leaf_bytes item) items) =
     leaf_with im om page low high items item.key (leaf_bytes item) h refl refl
-        (replaced_is item.key (leaf_bytes item) im.items p.0 p.1) (leaf_holds item is) (key_of_leaf item) f b in
+    (replaced_is item.key (leaf_bytes item) im.items p.0 p.1) (leaf_holds item is) (key_of_leaf item) f b in
     let one : after_records lsn (update_plan im item).records im ≡ step lsn (removed im place lsn) second =
     ap (λ (i : Image). step lsn i second) (step_own first lsn im refl) in
     subst (λ (i : Image). IsLeafPage i page low high (with_item item.key (leaf_bytes item) items)) (sym (one ∙ step_own second lsn (removed im place lsn) refl)) done

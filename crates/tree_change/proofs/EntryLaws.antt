@@ -77,8 +77,10 @@ next_above es xs entry (y ∷ ys) place key e c child =
   where
     push_length : (us : List InnerItem) (b : InnerItem) → length (us ++ b ∷ []) ≡ length us + 1
     push_length us b = simp length-append (omega arith)
+
     regroup : (us : List InnerItem) (b : InnerItem) (cs : List InnerItem) → us ++ (b ∷ cs) ≡ (us ++ b ∷ []) ++ cs
     regroup us b cs = sym (append_assoc us (b ∷ []) cs)
+
     long_enough : (es us : List InnerItem) (b y : InnerItem) (cs : List InnerItem) (n : ℕ) → es ≡ us ++ (b ∷ (y ∷ cs)) → length us ≡ n → n + 1 < length (entry_keys es)
     long_enough es us b y cs n e c =
         let l = length-map es (λ (x : InnerItem). x.key) in

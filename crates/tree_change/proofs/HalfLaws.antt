@@ -85,7 +85,7 @@ moved_of_inner page at new slots item rs e h is long =
     append_assoc rs (InsertSlot new 0 (without_key item) ∷ []) (inserts new (at + 1 - at) (take (slots - (at + 1)) (drop (at + 1) page.items)))
     ∙ ap (λ (n : ℕ). rs ++ (InsertSlot new 0 (without_key item) ∷ inserts new n (take (slots - (at + 1)) (drop (at + 1) page.items)))) one
     ∙ ap (λ (l : List (List ℕ)). rs ++ (InsertSlot new 0 (without_key item) ∷ inserts new 1 l))
-        (ap (λ (n : ℕ). take (n - (at + 1)) (drop (at + 1) page.items)) long ∙ take_rest page.items (at + 1))
+    (ap (λ (n : ℕ). take (n - (at + 1)) (drop (at + 1) page.items)) long ∙ take_rest page.items (at + 1))
     ∙ ap (λ (l : List (List ℕ)). rs ++ inserts new 0 l) (sym (right_of_inner page at item e h is))
 
 -- the items of a heavy page reach half a page

@@ -24,3 +24,4 @@ pub mod SplitKeeps
 pub mod FullLaws
 pub mod RootEffects
 pub mod RootTree
+pub mod ReadLaws

@@ -31,8 +31,7 @@ pub stands_all : (pages : ℕ → Image) (P : ℕ → Type 0)
 stands_all pages P leaf inner zero page low high items nodes h =
     subst (AllByRecursion P) (sym h.1) (leaf page low high items h.0, tt)
 stands_all pages P leaf inner (suc level) page low high items nodes h =
-    subst (AllByRecursion P) (sym h.4)
-    (
+    subst (AllByRecursion P) (sym h.4) (
       inner page (suc level) h.0 h.2,
       parts_all (Stands pages level) P (λ p l hi its ns c. stands_all pages P leaf inner level p l hi its ns c) h.0 low high items h.1 h.3,
     )

@@ -53,8 +53,7 @@ behind_less : (C : Child) (ys : List InnerItem) (lo high hi : Option (List ℕ))
 behind_less C [] lo high hi items nodes sep b h s = tt
 behind_less C (y ∷ ys) lo high hi items nodes sep b h s =
     let first : key_cmp sep y.key ≡ Less = subst (λ (k : Option (List ℕ)). Below k sep) b.0 h in
-    let first' : key_cmp sep (key_in (inner_bytes y)) ≡ Less = subst (λ (k : List ℕ). key_cmp sep k ≡ Less) (sym (key_of_entry y)) first in
-    (
+    let first' : key_cmp sep (key_in (inner_bytes y)) ≡ Less = subst (λ (k : List ℕ). key_cmp sep k ≡ Less) (sym (key_of_entry y)) first in (
       first',
       all_weaker (λ z. key_cmp (key_in (inner_bytes y)) (key_in z) ≡ Less) (λ z. key_cmp sep (key_in z) ≡ Less)
           (λ z l. less_trans sep (key_in (inner_bytes y)) (key_in z) first' l) (map inner_bytes ys) s.0,
@@ -103,7 +102,7 @@ parent_stands pages others l parent page new low high xs entry ys items below se
     let e : InnerItem = record { key = sep; child = new } in
     let P : ℕ → Type 0 = λ q. others q ≡ pages q in
     let each = λ (q : ℕ) (lo hi : Option (List ℕ)) (its : List (List ℕ)) (ns : List ℕ) (all : AllByRecursion P ns) (c : Stands pages l q lo hi its ns).
-        stands_frame pages others l q lo hi its ns all c in
+    stands_frame pages others l q lo hi its ns all c in
     let front = front_frame (Stands pages l) (Stands others l) P each xs entry.key low high f.lo f.ahead f.left sl f.front in
     let back = back_frame (Stands pages l) (Stands others l) P each ys f.lo high f.hi f.after f.right sr f.back in
     let left : Stands others l entry.child f.lo (Some sep) h.left_items h.left_nodes =
@@ -117,8 +116,7 @@ parent_stands pages others l parent page new low high xs entry ys items below se
     let sorted1 : Sorted (map inner_bytes xs ++ (inner_bytes entry ∷ map inner_bytes ys)) = subst Sorted (map-append inner_bytes xs (entry ∷ ys)) sorted0 in
     let ys_sorted : Sorted (map inner_bytes ys) = (sorted_back (map inner_bytes xs) (inner_bytes entry ∷ map inner_bytes ys) sorted1).1 in
     let less = own_less (Stands pages l) xs entry ys low high f.lo f.ahead f.left sep (pages parent) f.front h.beyond h.above ip.has ip.least in
-    let more = behind_less (Stands pages l) ys f.lo high f.hi f.after f.right sep f.back h.below ys_sorted in
-    (
+    let more = behind_less (Stands pages l) ys f.lo high f.hi f.after f.right sep f.back h.below ys_sorted in (
       xs ++ (entry ∷ (e ∷ ys)),
       f.left ++ ((h.left_nodes ++ h.right_nodes) ++ f.right),
       record {

@@ -236,8 +236,7 @@ with_key_found key items i asc e =
     let inside : i < length items = omega arith in
     let here : get_or (keys_of items) i [] ≡ key = get_or_from_slice_get (keys_of items) i key [] e in
     let passes : is_eq (key_cmp (key_in (get_or items i [])) key) ≡ true =
-    ap is_eq (ap (λ (a : List ℕ). key_cmp a key) (sym (key_of_item items i inside) ∙ here) ∙ same_key key) in
-    (
+    ap is_eq (ap (λ (a : List ℕ). key_cmp a key) (sym (key_of_item items i inside) ∙ here) ∙ same_key key) in (
       inside,
       filter_one (λ item. is_eq (key_cmp (key_in item) key)) items i [] inside passes
           (λ k h ne. ap (λ (a : List ℕ). is_eq (key_cmp a key)) (sym (key_of_item items k h)) ∙ other_key items key i k asc here inside h ne),

@@ -34,10 +34,15 @@ none_root root meta at other r a b m =
     let left : ℕ = count_of meta in
     let right : ℕ = count_of meta + 1 in
     let Q = λ (x : Record). page_of x ≢ other in
-    all_join Q (made_halves root at left right) (linked_to root left right ++ rest_records root at meta)
-    (a, (b, all_join Q (inserts left 0 (take at root.items)) (inserts right 0 (right_half root at))
-    (none_of left other (inserts left 0 (take at root.items)) (inserts_pages left 0 (take at root.items)) a)
-    (none_of right other (inserts right 0 (right_half root at)) (inserts_pages right 0 (right_half root at)) b)))
+    all_join Q (made_halves root at left right) (linked_to root left right ++ rest_records root at meta) (
+      a,
+      (
+        b,
+        all_join Q (inserts left 0 (take at root.items)) (inserts right 0 (right_half root at))
+            (none_of left other (inserts left 0 (take at root.items)) (inserts_pages left 0 (take at root.items)) a)
+            (none_of right other (inserts right 0 (right_half root at)) (inserts_pages right 0 (right_half root at)) b),
+      ),
+    )
     (all_join Q (linked_to root left right) (rest_records root at meta)
     (none_of left other (linked_to root left right) (linked_to_pages root left right) a)
     (r, (r, (r, (r, (m, tt))))))
@@ -67,7 +72,7 @@ rest_none root meta at other r m = (r, (r, (r, (r, (m, tt)))))
 
 left_after : (root meta : Image) (at lsn : ℕ) → count_of meta ≢ count_of meta + 1
     → after_records lsn (made_halves root at (count_of meta) (count_of meta + 1)) (unmade (count_of meta))
-      ≡ after_records lsn (inserts (count_of meta) 0 (take at root.items)) (made (unmade (count_of meta)) root.kind root.level lsn)
+    ≡ after_records lsn (inserts (count_of meta) 0 (take at root.items)) (made (unmade (count_of meta)) root.kind root.level lsn)
 left_after root meta at lsn ne =
     let left : ℕ = count_of meta in
     let right : ℕ = count_of meta + 1 in
@@ -102,7 +107,7 @@ on_left root meta at lsn d =
 
 right_after : (root meta : Image) (at lsn : ℕ) → count_of meta ≢ count_of meta + 1
     → after_records lsn (made_halves root at (count_of meta) (count_of meta + 1)) (unmade (count_of meta + 1))
-      ≡ after_records lsn (inserts (count_of meta + 1) 0 (right_half root at)) (made (unmade (count_of meta + 1)) root.kind root.level lsn)
+    ≡ after_records lsn (inserts (count_of meta + 1) 0 (right_half root at)) (made (unmade (count_of meta + 1)) root.kind root.level lsn)
 right_after root meta at lsn ne =
     let left : ℕ = count_of meta in
     let right : ℕ = count_of meta + 1 in
@@ -123,8 +128,8 @@ on_right root meta at lsn d =
     let m = one_page root.kind right root.level lsn (right_half root at) in
     let none : NoneFor om.page (linked_to root left right ++ rest_records root at meta) =
     all_join (λ x. page_of x ≢ om.page) (linked_to root left right) (rest_records root at meta)
-        (none_of left om.page (linked_to root left right) (linked_to_pages root left right) (λ e. d.bc (e ∙ m.number)))
-        (rest_none root meta at om.page (λ e. d.ac (e ∙ m.number)) (λ e. d.cd (sym (e ∙ m.number)))) in
+    (none_of left om.page (linked_to root left right) (linked_to_pages root left right) (λ e. d.bc (e ∙ m.number)))
+    (rest_none root meta at om.page (λ e. d.ac (e ∙ m.number)) (λ e. d.cd (sym (e ∙ m.number)))) in
     subst (IsMade root.kind right root.level 0 (right_half root at))
     (sym (after_records-append lsn (made_halves root at left right) (linked_to root left right ++ rest_records root at meta) (unmade right)
     ∙ ap (after_records lsn (linked_to root left right ++ rest_records root at meta)) (right_after root meta at lsn d.bc)
@@ -141,10 +146,15 @@ new_root root at left right lsn =
 none_halves : (root meta : Image) (at other : ℕ) → count_of meta ≢ other → count_of meta + 1 ≢ other → NoneFor other (made_halves root at (count_of meta) (count_of meta + 1))
 none_halves root meta at other a b =
     let left : ℕ = count_of meta in
-    let right : ℕ = count_of meta + 1 in
-    (a, (b, all_join (λ x. page_of x ≢ other) (inserts left 0 (take at root.items)) (inserts right 0 (right_half root at))
-    (none_of left other (inserts left 0 (take at root.items)) (inserts_pages left 0 (take at root.items)) a)
-    (none_of right other (inserts right 0 (right_half root at)) (inserts_pages right 0 (right_half root at)) b)))
+    let right : ℕ = count_of meta + 1 in (
+      a,
+      (
+        b,
+        all_join (λ x. page_of x ≢ other) (inserts left 0 (take at root.items)) (inserts right 0 (right_half root at))
+            (none_of left other (inserts left 0 (take at root.items)) (inserts_pages left 0 (take at root.items)) a)
+            (none_of right other (inserts right 0 (right_half root at)) (inserts_pages right 0 (right_half root at)) b),
+      ),
+    )
 
 pub on_root : (root meta : Image) (at lsn : ℕ) → Apart root.page (count_of meta) (count_of meta + 1) meta.page
     → after_records lsn (root_split_records root at meta) root ≡ new_root root at (count_of meta) (count_of meta + 1) lsn

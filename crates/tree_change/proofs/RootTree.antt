@@ -96,8 +96,7 @@ root_same : (key : List ℕ) (path : List Image) (w : IsWayTo key path) (meta : 
 root_same key path w meta place lsn s [] n r = tt
 root_same key path w meta place lsn s (q ∷ nodes) n r =
     let b = below key path w in
-    let one = n.0 in
-    (
+    let one = n.0 in (
       untouched lsn (root_rs key path w meta place) (w.pages q)
           (none_root (w.pages w.root) meta place (w.pages q).page
           (λ e. r.0 (sym (sym b.node.number ∙ e ∙ one.number)))
@@ -133,15 +132,13 @@ inner_moved im root left level es h =
 stands_moved : (pages : ℕ → Image) (level root left : ℕ) (items : List (List ℕ)) (nodes deep : List ℕ)
     → Stands pages level root None None items nodes → nodes ≡ root ∷ deep → Without left deep → Stands (moved pages root left) level left None None items (left ∷ deep)
 stands_moved pages zero root left items nodes deep h are w =
-    let none : deep ≡ [] = tail_same root deep [] (sym are ∙ h.1) in
-    (
+    let none : deep ≡ [] = tail_same root deep [] (sym are ∙ h.1) in (
       subst (λ (o : Image). IsLeafPage o left None None items) (sym (moved_left pages root left)) (leaf_moved (pages root) root left None None items h.0),
       ap (λ (l : List ℕ). left ∷ l) none,
     )
 stands_moved pages (suc m) root left items nodes deep h are w =
     let same : h.1 ≡ deep = tail_same root h.1 deep (sym h.4 ∙ are) in
-    let w' : Without left h.1 = subst (Without left) (sym same) w in
-    (
+    let w' : Without left h.1 = subst (Without left) (sym same) w in (
       h.0,
       h.1,
       subst (λ (o : Image). IsInnerPage o left (suc m) h.0) (sym (moved_left pages root left)) (inner_moved (pages root) root left (suc m) h.0 h.2),
@@ -227,8 +224,7 @@ root_stands key path w meta place lsn s b h =
     let short = h.short in
     let bound = s.bound in
     let less0 : key_cmp [] (key_in (inner_bytes e1)) ≡ Less = subst (λ (k : List ℕ). key_cmp [] k ≡ Less) (sym (key_of_entry e1)) h.above in
-    let less : key_cmp (key_in (inner_bytes e0)) (key_in (inner_bytes e1)) ≡ Less = subst (λ (k : List ℕ). key_cmp k (key_in (inner_bytes e1)) ≡ Less) (sym (key_of_entry e0)) less0 in
-    (
+    let less : key_cmp (key_in (inner_bytes e0)) (key_in (inner_bytes e1)) ≡ Less = subst (λ (k : List ℕ). key_cmp k (key_in (inner_bytes e1)) ≡ Less) (sym (key_of_entry e0)) less0 in (
       e0 ∷ e1 ∷ [],
       h.left_nodes ++ h.right_nodes,
       record {
@@ -261,11 +257,11 @@ leaves_same pages others root left right ol or k0 k l r same linked =
     let nexts : SameNext pages others (ol ++ or) = all_weaker (λ q. others q ≡ pages q) (λ q. (others q).next ≡ (pages q).next) (λ q e. ap (λ (o : Image). o.next) e) (ol ++ or) same in
     let now : leaves_of others (root ∷ (left ∷ (ol ++ (right ∷ or)))) ≡ leaves_of pages (ol ++ or) =
     dropped_leaf others root (left ∷ (ol ++ (right ∷ or))) (ap is_leaf k)
-        ∙ dropped_leaf others left (ol ++ (right ∷ or)) (ap is_leaf l)
-        ∙ leaves-append others ol (right ∷ or)
-        ∙ ap (λ (n : List ℕ). leaves_of others ol ++ n) (dropped_leaf others right or (ap is_leaf r))
-        ∙ sym (leaves-append others ol or)
-        ∙ filter_same (λ q. is_leaf (others q).kind) (λ q. is_leaf (pages q).kind) (ol ++ or) kinds in
+    ∙ dropped_leaf others left (ol ++ (right ∷ or)) (ap is_leaf l)
+    ∙ leaves-append others ol (right ∷ or)
+    ∙ ap (λ (n : List ℕ). leaves_of others ol ++ n) (dropped_leaf others right or (ap is_leaf r))
+    ∙ sym (leaves-append others ol or)
+    ∙ filter_same (λ q. is_leaf (others q).kind) (λ q. is_leaf (pages q).kind) (ol ++ or) kinds in
     subst (Linked others) (sym now)
     (linked_on_same pages others (leaves_of pages (ol ++ or)) (all_filter (λ q. (others q).next ≡ (pages q).next) (λ q. is_leaf (pages q).kind) (ol ++ or) nexts) old)
 
@@ -344,22 +340,22 @@ root_applies key path w meta place lsn s page number =
     elim (eqb_tells page w.root) [
       | inl own ↦ subst (λ (p : ℕ). RecordsApply lsn rs (w.pages p)) (sym own.1) (apply_root im meta place lsn d b.node.kind node.0 s.low short)
       | inr n1 ↦ elim (eqb_tells page left) [
+        | inl own ↦ subst (λ (p : ℕ). RecordsApply lsn rs (w.pages p)) (sym own.1)
+            (subst (λ (o : Image). RecordsApply lsn rs o) (sym s.left_there) (apply_left im meta place lsn d node.1 s.image.level_fits node.0 each room s.bound))
+        | inr n2 ↦ elim (eqb_tells page right) [
           | inl own ↦ subst (λ (p : ℕ). RecordsApply lsn rs (w.pages p)) (sym own.1)
-              (subst (λ (o : Image). RecordsApply lsn rs o) (sym s.left_there) (apply_left im meta place lsn d node.1 s.image.level_fits node.0 each room s.bound))
-          | inr n2 ↦ elim (eqb_tells page right) [
-              | inl own ↦ subst (λ (p : ℕ). RecordsApply lsn rs (w.pages p)) (sym own.1)
-                  (subst (λ (o : Image). RecordsApply lsn rs o) (sym s.right_there) (apply_right im meta place lsn d node.1 s.image.level_fits node.0 fits.0 fits.1))
-              | inr n3 ↦ elim (eqb_tells page meta.page) [
-                  | inl own ↦ subst (λ (p : ℕ). RecordsApply lsn rs (w.pages p)) (sym own.1)
-                      (subst (λ (o : Image). RecordsApply lsn rs o) (sym s.meta_there) (apply_root_meta im meta place lsn d s.is_meta.kind))
-                  | inr n4 ↦ none_apply lsn rs (w.pages page) (none_root im meta place (w.pages page).page
-                      (λ e. n1.1 (sym (sym b.node.number ∙ e ∙ number)))
-                      (λ e. n2.1 (sym (e ∙ number)))
-                      (λ e. n3.1 (sym (e ∙ number)))
-                      (λ e. n4.1 (sym (e ∙ number))))
-                ]
-            ]
+              (subst (λ (o : Image). RecordsApply lsn rs o) (sym s.right_there) (apply_right im meta place lsn d node.1 s.image.level_fits node.0 fits.0 fits.1))
+          | inr n3 ↦ elim (eqb_tells page meta.page) [
+            | inl own ↦ subst (λ (p : ℕ). RecordsApply lsn rs (w.pages p)) (sym own.1)
+                (subst (λ (o : Image). RecordsApply lsn rs o) (sym s.meta_there) (apply_root_meta im meta place lsn d s.is_meta.kind))
+            | inr n4 ↦ none_apply lsn rs (w.pages page) (none_root im meta place (w.pages page).page
+                (λ e. n1.1 (sym (sym b.node.number ∙ e ∙ number)))
+                (λ e. n2.1 (sym (e ∙ number)))
+                (λ e. n3.1 (sym (e ∙ number)))
+                (λ e. n4.1 (sym (e ∙ number))))
+          ]
         ]
+      ]
     ]
 
 pub root_is : (key : List ℕ) (path : List Image) (w : IsWayTo key path) → page_on path 0 ≡ w.pages w.root
@@ -382,6 +378,7 @@ root_keeps key path place meta is_place image low is_meta bound = record {
   where
     same : (w : IsWayTo key path) → root_split_records (page_on path 0) place meta ≡ root_rs key path w meta place
     same w = ap (λ (o : Image). root_split_records o place meta) (root_is key path w)
+
     setting : (w : IsWayTo key path) → w.pages meta.page ≡ meta → w.pages (count_of meta) ≡ unmade (count_of meta) → w.pages (count_of meta + 1) ≡ unmade (count_of meta + 1) → RootSetting key path w meta place
     setting w m l r =
         let e = root_is key path w in

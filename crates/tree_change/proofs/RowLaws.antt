@@ -34,8 +34,7 @@ all_without P key items all =
 sorted_with : (key item : List ℕ) (items : List (List ℕ)) → key_in item ≡ key → Sorted items → Sorted (with_item key item items)
 sorted_with key item items e s =
     sorted_at (before key items) item (behind key items)
-    (sorted_filter (λ x. is_lt (key_cmp (key_in x) key)) items s)
-    (
+    (sorted_filter (λ x. is_lt (key_cmp (key_in x) key)) items s) (
       subst (λ (k : List ℕ). AllByRecursion (λ y. key_cmp k (key_in y) ≡ Less) (behind key items)) (sym e) (behind_greater key items),
       sorted_filter (λ x. is_gt (key_cmp (key_in x) key)) items s,
     )
@@ -82,9 +81,9 @@ before_of key a m z less greater =
     filter-append p a (m ++ z)
     ∙ ap (λ (l : List (List ℕ)). l ++ before key (m ++ z)) (keep_all p a (all_weaker (λ x. key_cmp (key_in x) key ≡ Less) (λ x. p x ≡ true) (λ x h. ap is_lt h) a less))
     ∙ ap (λ (l : List (List ℕ)). a ++ l)
-        (filter-append p m z
-        ∙ ap (λ (l : List (List ℕ)). before key m ++ l) (keep_none p z (all_weaker (λ x. key_cmp (key_in x) key ≡ Greater) (λ x. p x ≡ false) (λ x h. ap is_lt h) z greater))
-        ∙ append-nil (before key m))
+    (filter-append p m z
+    ∙ ap (λ (l : List (List ℕ)). before key m ++ l) (keep_none p z (all_weaker (λ x. key_cmp (key_in x) key ≡ Greater) (λ x. p x ≡ false) (λ x h. ap is_lt h) z greater))
+    ∙ append-nil (before key m))
 
 behind_of : (key : List ℕ) (a m z : List (List ℕ)) → AllLess key a → AllGreater key z → behind key (a ++ (m ++ z)) ≡ behind key m ++ z
 behind_of key a m z less greater =

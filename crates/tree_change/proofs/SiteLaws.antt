@@ -116,7 +116,7 @@ around key path w i l s =
     let R : List ℕ = s.spot.right in
     let nodes : w.tree.nodes ≡ L ++ ((s.parent ∷ (FL ++ ((s.page ∷ deep) ++ FR))) ++ R) =
     s.spot.nodes_are ∙ ap (λ (o : List ℕ). L ++ (o ++ R)) s.own_is ∙ ap (λ (o : List ℕ). L ++ ((s.parent ∷ o) ++ R)) s.parts.nodes_are
-        ∙ ap (λ (o : List ℕ). L ++ ((s.parent ∷ (FL ++ (o ++ FR))) ++ R)) own in
+    ∙ ap (λ (o : List ℕ). L ++ ((s.parent ∷ (FL ++ (o ++ FR))) ++ R)) own in
     let N : ℕ → Type 0 = IsNode w.pages in
     let all0 : AllByRecursion N w.tree.nodes = stands_nodes w.pages w.tree.level w.root None None w.items w.tree.nodes w.tree.stands in
     let all : AllByRecursion N (L ++ ((s.parent ∷ (FL ++ ((s.page ∷ deep) ++ FR))) ++ R)) = subst (AllByRecursion N) nodes all0 in

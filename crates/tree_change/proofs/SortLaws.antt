@@ -25,7 +25,7 @@ head_less x xs asc =
     let P : List ℕ → Type 0 = λ y. key_cmp (key_in x) (key_in y) ≡ Less in
     recursion_from_All P xs (All-from_get_or P xs []
     (λ i h. let long = as_many xs in
-        subst (λ (k : List ℕ). key_cmp (key_in x) k ≡ Less) (key_of_item xs i h) (asc 0 (suc i) (omega arith) (omega arith))))
+    subst (λ (k : List ℕ). key_cmp (key_in x) k ≡ Less) (key_of_item xs i h) (asc 0 (suc i) (omega arith) (omega arith))))
 
 pub sorted_from : (items : List (List ℕ)) → Ascend (keys_of items) → Sorted items
 sorted_from [] asc = tt
@@ -147,6 +147,7 @@ placed_first k ks key e (inr absent) = inr (
     less_more : (k : List ℕ) (ks : List (List ℕ)) (key : List ℕ) (n : ℕ) → key_cmp k key ≡ Less → LessBelow ks n key → LessBelow (k ∷ ks) (suc n) key
     less_more k ks key n e h zero w = e
     less_more k ks key n e h (suc i) w = h i (omega arith)
+
     greater_more : (k : List ℕ) (ks : List (List ℕ)) (key : List ℕ) (n : ℕ) → GreaterFrom ks n key → GreaterFrom (k ∷ ks) (suc n) key
     greater_more k ks key n h zero w i = absurd (omega arith)
     greater_more k ks key n h (suc j) w i = h j (omega arith) (omega arith)

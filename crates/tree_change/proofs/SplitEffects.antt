@@ -122,8 +122,8 @@ on_new key parent page meta at lsn d =
     let other = λ (p : ℕ) (ne : p ≢ new) (e : p ≡ om.page). ne (e ∙ m.number) in
     let none : NoneFor om.page rest =
     all_join (λ r. page_of r ≢ om.page) (linked_to page page.page new) (last_records key parent page at meta)
-        (none_of page.page om.page (linked_to page page.page new) (linked_to_pages page page.page new) (other page.page d.bc))
-        (other page.page d.bc, (other parent.page d.ac, (other meta.page (turn (count_of meta) meta.page d.cd), tt))) in
+    (none_of page.page om.page (linked_to page page.page new) (linked_to_pages page page.page new) (other page.page d.bc))
+    (other page.page d.bc, (other parent.page d.ac, (other meta.page (turn (count_of meta) meta.page d.cd), tt))) in
     subst (IsMade page.kind new page.level page.next (right_half page at))
     (sym (after_records-append lsn (made_right page at new) rest (unmade new) ∙ untouched lsn rest om none)) m
 
@@ -139,8 +139,8 @@ apply_new key parent page meta at lsn d some fits slotted each room bound =
     let other = λ (p : ℕ) (ne : p ≢ new) (e : p ≡ om.page). ne (e ∙ m.number) in
     let none : NoneFor om.page rest =
     all_join (λ r. page_of r ≢ om.page) (linked_to page page.page new) (last_records key parent page at meta)
-        (none_of page.page om.page (linked_to page page.page new) (linked_to_pages page page.page new) (other page.page d.bc))
-        (other page.page d.bc, (other parent.page d.ac, (other meta.page (turn (count_of meta) meta.page d.cd), tt))) in
+    (none_of page.page om.page (linked_to page page.page new) (linked_to_pages page page.page new) (other page.page d.bc))
+    (other page.page d.bc, (other parent.page d.ac, (other meta.page (turn (count_of meta) meta.page d.cd), tt))) in
     RecordsApply-append lsn (made_right page at new) rest (unmade new) (apply_made page.kind new page.level page.next lsn (right_half page at) some fits slotted each room bound)
     (none_apply lsn rest om none)
 

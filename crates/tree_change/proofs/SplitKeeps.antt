@@ -49,8 +49,10 @@ right_fits im at h = by_test (is_inner im.kind)
   where
     back : AllByRecursion (λ x. 1 ≤ length x) (drop at im.items)
     back = recursion_from_All (λ x. 1 ≤ length x) (drop at im.items) (All-drop (λ x. 1 ≤ length x) at im.items h.some_bytes)
+
     fits : used (drop at im.items) ≤ PAGE_BYTES - HEADER_BYTES
     fits = let e = used_halves at im.items in let r = h.room in omega (arith, e, r)
+
     by_test : (b : Bool) → AllByRecursion (λ x. 1 ≤ length x) (cond b (first_without_key (drop at im.items)) (drop at im.items))
         × (used (cond b (first_without_key (drop at im.items)) (drop at im.items)) ≤ PAGE_BYTES - HEADER_BYTES)
     by_test true = (some_first (drop at im.items) back, (let u = used_first (drop at im.items) back in let f = fits in omega (arith, u, f)))
@@ -100,22 +102,22 @@ split_applies key path w i l meta at lsn s image room page number =
     elim (eqb_tells page st.parent) [
       | inl own ↦ subst (λ (p : ℕ). RecordsApply lsn rs (w.pages p)) (sym own.1) (apply_parent key parent im meta at lsn d (parent_can key path w i l meta at s room))
       | inr n1 ↦ elim (eqb_tells page st.page) [
-          | inl own ↦ subst (λ (p : ℕ). RecordsApply lsn rs (w.pages p)) (sym own.1) (apply_page key parent im meta at lsn d node.0 s.new_bound within)
-          | inr n2 ↦ elim (eqb_tells page (count_of meta)) [
-              | inl own ↦ subst (λ (p : ℕ). RecordsApply lsn rs (w.pages p)) (sym own.1)
-                  (subst (λ (o : Image). RecordsApply lsn rs o) (sym s.new_there)
-                  (apply_new key parent im meta at lsn d node.1 image.level_fits node.0 right.0 right.1 image.next_bound))
-              | inr n3 ↦ elim (eqb_tells page meta.page) [
-                  | inl own ↦ subst (λ (p : ℕ). RecordsApply lsn rs (w.pages p)) (sym own.1)
-                      (subst (λ (o : Image). RecordsApply lsn rs o) (sym s.meta_there) (apply_meta key parent im meta at lsn d s.is_meta.kind))
-                  | inr n4 ↦ none_apply lsn rs (w.pages page) (none_else key parent im meta at (w.pages page).page
-                      (λ e. n1.1 (sym (sym s.around.parent_node.number ∙ e ∙ number)))
-                      (λ e. n2.1 (sym (sym s.around.page_node.number ∙ e ∙ number)))
-                      (λ e. n3.1 (sym (e ∙ number)))
-                      (λ e. n4.1 (sym (e ∙ number))))
-                ]
-            ]
+        | inl own ↦ subst (λ (p : ℕ). RecordsApply lsn rs (w.pages p)) (sym own.1) (apply_page key parent im meta at lsn d node.0 s.new_bound within)
+        | inr n2 ↦ elim (eqb_tells page (count_of meta)) [
+          | inl own ↦ subst (λ (p : ℕ). RecordsApply lsn rs (w.pages p)) (sym own.1)
+              (subst (λ (o : Image). RecordsApply lsn rs o) (sym s.new_there)
+              (apply_new key parent im meta at lsn d node.1 image.level_fits node.0 right.0 right.1 image.next_bound))
+          | inr n3 ↦ elim (eqb_tells page meta.page) [
+            | inl own ↦ subst (λ (p : ℕ). RecordsApply lsn rs (w.pages p)) (sym own.1)
+                (subst (λ (o : Image). RecordsApply lsn rs o) (sym s.meta_there) (apply_meta key parent im meta at lsn d s.is_meta.kind))
+            | inr n4 ↦ none_apply lsn rs (w.pages page) (none_else key parent im meta at (w.pages page).page
+                (λ e. n1.1 (sym (sym s.around.parent_node.number ∙ e ∙ number)))
+                (λ e. n2.1 (sym (sym s.around.page_node.number ∙ e ∙ number)))
+                (λ e. n3.1 (sym (e ∙ number)))
+                (λ e. n4.1 (sym (e ∙ number))))
+          ]
         ]
+      ]
     ]
 
 -- ---- and so a split keeps the items
@@ -150,6 +152,7 @@ split_keeps key path i at meta inside place image room is_meta bound =
           new_there = n;
           new_bound = bound;
         }
+
     same : (w : IsWayTo key path) (l : ℕ) (s : Setting key path w i l meta at) → split_records key (page_on path i) (page_on path (i + 1)) at meta ≡ rs_of key path w i l meta at s
     same w l s =
         ap (λ (o : Image). split_records key o (page_on path (i + 1)) at meta) s.site.parent_is

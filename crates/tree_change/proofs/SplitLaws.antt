@@ -150,7 +150,7 @@ inner_parts pages others m page new lo hi x us y vs items below im h parts same 
     let f : Focus (Stands pages m) (x ∷ us) y vs lo hi items below = focus (Stands pages m) (x ∷ us) y vs lo hi items below parts in
     let P : ℕ → Type 0 = λ q. others q ≡ pages q in
     let each = λ (p : ℕ) (l k : Option (List ℕ)) (its : List (List ℕ)) (ns : List ℕ) (all : AllByRecursion P ns) (c : Stands pages m p l k its ns).
-        stands_frame pages others m p l k its ns all c in
+    stands_frame pages others m p l k its ns all c in
     let same' : SameAt pages others (f.left ++ (f.own ++ f.right)) = subst (SameAt pages others) f.nodes_are same in
     let left : Parts (Stands others m) (x ∷ us) lo (Some y.key) f.ahead f.left =
     parts_frame (Stands pages m) (Stands others m) P each (x ∷ us) lo (Some y.key) f.ahead f.left (all_front P f.left (f.own ++ f.right) same') f.front.3 in

@@ -285,7 +285,7 @@ leaf_halves pages others page new at lo hi mid own h place a =
     let right : right_half im at ≡ c.b ∷ c.back = (rw outer c.dropped) in
     let built : Halves others zero page new lo hi (key_in c.b) ((c.a ∷ c.front) ++ (c.b ∷ c.back)) (page ∷ []) =
     leaf_parts others page new lo hi c.a c.front c.b c.back im leaf
-        (a.left_kind ∙ h.0.kind) a.left_number (a.left_items ∙ c.taken) (a.right_kind ∙ h.0.kind) a.right_number (a.right_items ∙ right) in
+    (a.left_kind ∙ h.0.kind) a.left_number (a.left_items ∙ c.taken) (a.right_kind ∙ h.0.kind) a.right_number (a.right_items ∙ right) in
     let sep : key_in c.b ≡ separator im at = ap key_in (sym c.here) in
     subst (λ (n : List ℕ). Halves others zero page new lo hi (separator im at) mid n) (sym h.1)
     (subst (λ (m : List (List ℕ)). Halves others zero page new lo hi (separator im at) m (page ∷ [])) (sym mid_is)
@@ -309,8 +309,8 @@ inner_halves pages others m page new at lo hi mid own deep h own_is same place a
     let items = cut_items im at c.x c.us c.y c.vs ip.kind ip'.has c.count in
     let built : Halves others (suc m) page new lo hi c.y.key mid (page ∷ h.1) =
     inner_parts pages others m page new lo hi c.x c.us c.y c.vs mid h.1 im ip' parts (subst (SameAt pages others) deep_is same)
-        (a.left_kind ∙ ip.kind) a.left_number (a.left_level ∙ ip.height) (a.left_items ∙ items.taken)
-        (a.right_kind ∙ ip.kind) a.right_number (a.right_level ∙ ip.height) (a.right_items ∙ items.right) in
+    (a.left_kind ∙ ip.kind) a.left_number (a.left_level ∙ ip.height) (a.left_items ∙ items.taken)
+    (a.right_kind ∙ ip.kind) a.right_number (a.right_level ∙ ip.height) (a.right_items ∙ items.right) in
     subst (λ (n : List ℕ). Halves others (suc m) page new lo hi (separator im at) mid n) (sym h.4)
     (subst (λ (k : List ℕ). Halves others (suc m) page new lo hi k mid (page ∷ h.1)) (sym items.sep) built)
 
@@ -332,9 +332,9 @@ kind_same key path w i l meta at lsn s q n =
       | inl own ↦ subst (λ (p : ℕ). (others p).kind ≡ (w.pages p).kind) (sym own.1)
           (ap (λ (o : Image). o.kind) (on_parent key (w.pages s.site.parent) (w.pages s.site.page) meta at lsn d))
       | inr not_parent ↦ elim (eqb_tells q s.site.page) [
-          | inl own ↦ subst (λ (p : ℕ). (others p).kind ≡ (w.pages p).kind) (sym own.1) a.left_kind
-          | inr not_page ↦ ap (λ (o : Image). o.kind) (same_else key path w i l meta at lsn s q n not_parent.1 not_page.1)
-        ]
+        | inl own ↦ subst (λ (p : ℕ). (others p).kind ≡ (w.pages p).kind) (sym own.1) a.left_kind
+        | inr not_page ↦ ap (λ (o : Image). o.kind) (same_else key path w i l meta at lsn s q n not_parent.1 not_page.1)
+      ]
     ]
 
 next_same : (key : List ℕ) (path : List Image) (w : IsWayTo key path) (i l : ℕ) (meta : Image) (at lsn : ℕ) (s : Setting key path w i l meta at)
@@ -348,9 +348,9 @@ next_same key path w i l meta at lsn s q n inner =
       | inl own ↦ subst (λ (p : ℕ). (others p).next ≡ (w.pages p).next) (sym own.1)
           (ap (λ (o : Image). o.next) (on_parent key (w.pages s.site.parent) (w.pages s.site.page) meta at lsn d))
       | inr not_parent ↦ elim (eqb_tells q s.site.page) [
-          | inl own ↦ subst (λ (p : ℕ). (others p).next ≡ (w.pages p).next) (sym own.1) (a.left_stays (inner own.1))
-          | inr not_page ↦ ap (λ (o : Image). o.next) (same_else key path w i l meta at lsn s q n not_parent.1 not_page.1)
-        ]
+        | inl own ↦ subst (λ (p : ℕ). (others p).next ≡ (w.pages p).next) (sym own.1) (a.left_stays (inner own.1))
+        | inr not_page ↦ ap (λ (o : Image). o.next) (same_else key path w i l meta at lsn s q n not_parent.1 not_page.1)
+      ]
     ]
 
 -- ---- the tree after a split
@@ -382,16 +382,16 @@ grown key path w i l meta at lsn s =
     let child : Stands w.pages l st.page f.lo f.hi f.mid f.own = subst (λ (c : ℕ). Stands w.pages l c f.lo f.hi f.mid f.own) st.child_is f.child in
     let h : Halves others l st.page new f.lo f.hi sep f.mid f.own =
     halves w.pages others l st.page new at f.lo f.hi f.mid f.own ar.deep child ar.own_is (same ar.deep ar.deep_nodes ar.deep_parent ar.deep_page) s.place
-        (halved others (w.pages st.page) st.page new at ar.page_node.number a) in
+    (halved others (w.pages st.page) st.page new at ar.page_node.number a) in
     let e : others st.parent ≡ inserted (w.pages st.parent) (not_greater key (w.pages st.parent).items) (entry_of sep new) lsn = on_parent key (w.pages st.parent) (w.pages st.page) meta at lsn d in
     let has = ap (λ (o : Image). o.items) e ∙ entry_joins st.xs st.entry (record { key = sep; child = new }) st.ys (w.pages st.parent).items (not_greater key (w.pages st.parent).items) st.inner.has st.behind in
     let parent : Stands others (suc l) st.parent st.spot.lo st.spot.hi st.spot.mid (st.parent ∷ (f.left ++ ((h.left_nodes ++ h.right_nodes) ++ f.right))) =
     parent_stands w.pages others l st.parent st.page new st.spot.lo st.spot.hi st.xs st.entry st.ys st.spot.mid st.below sep f st.inner h st.child_is
-        (same f.left ar.fl_nodes ar.fl_parent ar.fl_page) (same f.right ar.fr_nodes ar.fr_parent ar.fr_page)
-        (ap (λ (o : Image). o.kind) e ∙ st.inner.kind) (ap (λ (o : Image). o.page) e ∙ st.inner.number) (ap (λ (o : Image). o.level) e ∙ st.inner.height) has s.new_bound in
+    (same f.left ar.fl_nodes ar.fl_parent ar.fl_page) (same f.right ar.fr_nodes ar.fr_parent ar.fr_page)
+    (ap (λ (o : Image). o.kind) e ∙ st.inner.kind) (ap (λ (o : Image). o.page) e ∙ st.inner.number) (ap (λ (o : Image). o.level) e ∙ st.inner.height) has s.new_bound in
     let built : Stands others w.tree.level w.root None None (st.spot.ahead ++ (st.spot.mid ++ st.spot.after)) (st.spot.left ++ ((st.parent ∷ (f.left ++ ((h.left_nodes ++ h.right_nodes) ++ f.right))) ++ st.spot.right)) =
     st.spot.rebuild others st.spot.mid (st.parent ∷ (f.left ++ ((h.left_nodes ++ h.right_nodes) ++ f.right)))
-        (same st.spot.left ar.left_nodes ar.left_parent ar.left_page) (same st.spot.right ar.right_nodes ar.right_parent ar.right_page) parent in
+    (same st.spot.left ar.left_nodes ar.left_parent ar.left_page) (same st.spot.right ar.right_nodes ar.right_parent ar.right_page) parent in
     let all : Stands others w.tree.level w.root None None w.items (st.spot.left ++ ((st.parent ∷ (f.left ++ ((h.left_nodes ++ h.right_nodes) ++ f.right))) ++ st.spot.right)) =
     subst (λ (m : List (List ℕ)). Stands others w.tree.level w.root None None m (st.spot.left ++ ((st.parent ∷ (f.left ++ ((h.left_nodes ++ h.right_nodes) ++ f.right))) ++ st.spot.right))) (sym st.spot.items_are) built in
     record {
@@ -446,9 +446,9 @@ linked_inner key path w i l meta at lsn s kind xs ys are =
     let no_leaf : is_leaf (others (count_of meta)).kind ≡ false = ap is_leaf (a.right_kind ∙ kind) in
     let same : leaves_of others (xs ++ (count_of meta ∷ ys)) ≡ leaves_of w.pages (xs ++ ys) =
     leaves-append others xs (count_of meta ∷ ys)
-        ∙ ap (λ (n : List ℕ). leaves_of others xs ++ n) (dropped_leaf others (count_of meta) ys no_leaf)
-        ∙ sym (leaves-append others xs ys)
-        ∙ filter_same (λ q. is_leaf (others q).kind) (λ q. is_leaf (w.pages q).kind) (xs ++ ys) (all_kinds key path w i l meta at lsn s (xs ++ ys) all) in
+    ∙ ap (λ (n : List ℕ). leaves_of others xs ++ n) (dropped_leaf others (count_of meta) ys no_leaf)
+    ∙ sym (leaves-append others xs ys)
+    ∙ filter_same (λ q. is_leaf (others q).kind) (λ q. is_leaf (w.pages q).kind) (xs ++ ys) (all_kinds key path w i l meta at lsn s (xs ++ ys) all) in
     let nexts : SameNext w.pages others (xs ++ ys) =
     all_nexts key path w i l meta at lsn s (xs ++ ys) all (all_such (λ q. q ≡ s.site.page → is_inner (w.pages s.site.page).kind ≡ true) (λ q e. ap is_inner kind) (xs ++ ys)) in
     subst (Linked others) (sym same)
@@ -473,10 +473,10 @@ linked_leaf key path w i l meta at lsn s kind xs ys are wx wy =
     let agree = filter_same (λ q. is_leaf (others q).kind) (λ q. is_leaf (w.pages q).kind) in
     let now : leaves_of others (xs ++ (page ∷ (new ∷ ys))) ≡ leaves_of w.pages xs ++ (page ∷ (new ∷ leaves_of w.pages ys)) =
     leaves-append others xs (page ∷ (new ∷ ys))
-        ∙ ap (λ (n : List ℕ). leaves_of others xs ++ n)
-            (kept_leaf others page (new ∷ ys) (ap is_leaf (a.left_kind ∙ kind)) ∙ ap (λ (n : List ℕ). page ∷ n) (kept_leaf others new ys (ap is_leaf (a.right_kind ∙ kind))))
-        ∙ ap (λ (n : List ℕ). n ++ (page ∷ (new ∷ leaves_of others ys))) (agree xs (kinds xs nx))
-        ∙ ap (λ (n : List ℕ). leaves_of w.pages xs ++ (page ∷ (new ∷ n))) (agree ys (kinds ys ny)) in
+    ∙ ap (λ (n : List ℕ). leaves_of others xs ++ n)
+    (kept_leaf others page (new ∷ ys) (ap is_leaf (a.left_kind ∙ kind)) ∙ ap (λ (n : List ℕ). page ∷ n) (kept_leaf others new ys (ap is_leaf (a.right_kind ∙ kind))))
+    ∙ ap (λ (n : List ℕ). n ++ (page ∷ (new ∷ leaves_of others ys))) (agree xs (kinds xs nx))
+    ∙ ap (λ (n : List ℕ). leaves_of w.pages xs ++ (page ∷ (new ∷ n))) (agree ys (kinds ys ny)) in
     let P = λ (q : ℕ). q ≡ page → is_inner (w.pages page).kind ≡ true in
     let sx : SameNext w.pages others xs = all_nexts key path w i l meta at lsn s xs nx (all_weaker (λ q. q ≢ page) P (λ q h e. absurd (h e)) xs wx) in
     let sy : SameNext w.pages others ys = all_nexts key path w i l meta at lsn s ys ny (all_weaker (λ q. q ≢ page) P (λ q h e. absurd (h e)) ys wy) in
@@ -509,7 +509,7 @@ nodes_before key path w i l meta at lsn s g =
 
 linked_after : (key : List ℕ) (path : List Image) (w : IsWayTo key path) (i l : ℕ) (meta : Image) (at lsn : ℕ) (s : Setting key path w i l meta at) (g : Grown key path w i l meta at lsn s)
     → Linked (pages_after lsn (rs_of key path w i l meta at s) w.pages) (leaves_of (pages_after lsn (rs_of key path w i l meta at s) w.pages)
-        ((s.site.spot.left ++ (s.site.parent ∷ (s.site.parts.left ++ (s.site.page ∷ g.old_left)))) ++ (count_of meta ∷ (g.old_right ++ (s.site.parts.right ++ s.site.spot.right)))))
+    ((s.site.spot.left ++ (s.site.parent ∷ (s.site.parts.left ++ (s.site.page ∷ g.old_left)))) ++ (count_of meta ∷ (g.old_right ++ (s.site.parts.right ++ s.site.spot.right)))))
 linked_after key path w i zero meta at lsn s g =
     let st = s.site in
     let ar = s.around in
@@ -521,11 +521,11 @@ linked_after key path w i zero meta at lsn s g =
     let X = λ (ol or : List ℕ). (st.spot.left ++ (st.parent ∷ (st.parts.left ++ (st.page ∷ ol)))) ++ (or ++ (st.parts.right ++ st.spot.right)) in
     let before : w.tree.nodes ≡ (st.spot.left ++ (st.parent ∷ st.parts.left)) ++ (st.page ∷ (st.parts.right ++ st.spot.right)) =
     before0 ∙ ap (λ (n : List ℕ). X n g.old_right) empty.0 ∙ ap (λ (n : List ℕ). X [] n) empty.1
-        ∙ leaf_nodes st.spot.left st.parent st.parts.left st.page st.parts.right st.spot.right in
+    ∙ leaf_nodes st.spot.left st.parent st.parts.left st.page st.parts.right st.spot.right in
     let Z = λ (ol or : List ℕ). (st.spot.left ++ (st.parent ∷ (st.parts.left ++ (st.page ∷ ol)))) ++ (count_of meta ∷ (or ++ (st.parts.right ++ st.spot.right))) in
     let now : Z g.old_left g.old_right ≡ (st.spot.left ++ (st.parent ∷ st.parts.left)) ++ (st.page ∷ (count_of meta ∷ (st.parts.right ++ st.spot.right))) =
     ap (λ (n : List ℕ). Z n g.old_right) empty.0 ∙ ap (λ (n : List ℕ). Z [] n) empty.1
-        ∙ leaf_nodes_new st.spot.left st.parent st.parts.left st.page (count_of meta) st.parts.right st.spot.right in
+    ∙ leaf_nodes_new st.spot.left st.parent st.parts.left st.page (count_of meta) st.parts.right st.spot.right in
     let C = λ (q : ℕ). q ≢ st.page in
     subst (λ (n : List ℕ). Linked others (leaves_of others n)) (sym now)
     (linked_leaf key path w i zero meta at lsn s child.0.kind (st.spot.left ++ (st.parent ∷ st.parts.left)) (st.parts.right ++ st.spot.right) before

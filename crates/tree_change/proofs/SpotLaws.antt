@@ -185,21 +185,21 @@ spot_below pages level root low high items nodes key below page es inner ip node
       let inner' : Stands others level entry.child f.lo f.hi (s.ahead ++ (mid' ++ s.after)) (s.left ++ (own' ++ s.right)) =
       s.rebuild others mid' own' (all_back (λ q. others q ≡ pages q) f.left s.left sl.1) (all_front (λ q. others q ≡ pages q) s.right f.right sr) h' in
       let same = λ (p : ℕ) (l hi : Option (List ℕ)) (its : List (List ℕ)) (ns : List ℕ) (all : AllByRecursion (λ q. others q ≡ pages q) ns) (c : Stands pages level p l hi its ns).
-          stands_frame pages others level p l hi its ns all c in
+      stands_frame pages others level p l hi its ns all c in
       let front' : Front (Stands others level) xs entry.key low high f.lo f.ahead f.left =
       front_frame (Stands pages level) (Stands others level) (λ q. others q ≡ pages q) same xs entry.key low high f.lo f.ahead f.left
-          (all_front (λ q. others q ≡ pages q) f.left s.left sl.1) f.front in
+      (all_front (λ q. others q ≡ pages q) f.left s.left sl.1) f.front in
       let back' : Back (Stands others level) ys f.lo high f.hi f.after f.right =
       back_frame (Stands pages level) (Stands others level) (λ q. others q ≡ pages q) same ys f.lo high f.hi f.after f.right
-          (all_back (λ q. others q ≡ pages q) s.right f.right sr) f.back in
+      (all_back (λ q. others q ≡ pages q) s.right f.right sr) f.back in
       let parts : Parts (Stands others level) (xs ++ (entry ∷ ys)) low high (f.ahead ++ ((s.ahead ++ (mid' ++ s.after)) ++ f.after)) (f.left ++ ((s.left ++ (own' ++ s.right)) ++ f.right)) =
       rejoin (Stands others level) xs (entry ∷ []) ys entry.key low high f.lo f.hi f.ahead (s.ahead ++ (mid' ++ s.after)) f.after f.left (s.left ++ (own' ++ s.right)) f.right
-          front' back' refl inner' in
+      front' back' refl inner' in
       let parts1 : Parts (Stands others level) es low high (f.ahead ++ ((s.ahead ++ (mid' ++ s.after)) ++ f.after)) (f.left ++ ((s.left ++ (own' ++ s.right)) ++ f.right)) =
       subst (λ (l : List InnerItem). Parts (Stands others level) l low high (f.ahead ++ ((s.ahead ++ (mid' ++ s.after)) ++ f.after)) (f.left ++ ((s.left ++ (own' ++ s.right)) ++ f.right))) (sym are) parts in
       let parts2 : Parts (Stands others level) es low high ((f.ahead ++ s.ahead) ++ (mid' ++ (s.after ++ f.after))) (f.left ++ ((s.left ++ (own' ++ s.right)) ++ f.right)) =
       subst (λ (l : List (List ℕ)). Parts (Stands others level) es low high l (f.left ++ ((s.left ++ (own' ++ s.right)) ++ f.right)))
-          (sym (regroup f.ahead s.ahead mid' s.after f.after)) parts1 in (
+      (sym (regroup f.ahead s.ahead mid' s.after f.after)) parts1 in (
         es,
         f.left ++ ((s.left ++ (own' ++ s.right)) ++ f.right),
         inner_frame (pages root) (others root) root (suc level) es sl.0 ip,

@@ -3,7 +3,6 @@ use Rattle.std.specs.Prelude.{◌≡◌, ◌≤◌, ◌<◌, ◌+◌, ◌⊎◌,
 use Rattle.std.specs.List.{AllByRecursion}
 use Rattle.page_image.specs.declared.kind.Kind.TheVariants.{Leaf, Inner}
 use Rattle.page_image.specs.Image.{Image}
-use Rattle.page_view.specs.declared.leaf.TheConstants.{LONGEST_KEY}
 use Rattle.page_view.specs.Leaf.{HoldsLeaf}
 use Rattle.page_view.specs.Inner.{HoldsInner}
 use Rattle.page_view.specs.Keys.{Ascend, keys_of}
@@ -14,10 +13,10 @@ pub record HasRows (page : Image) : Type 0 where
   pub items : AllByRecursion HoldsLeaf page.items
   pub ascend : Ascend (keys_of page.items)
 
--- an inner item with a key of at most 64 bytes
+-- an inner item with a key of at most 255 bytes
 pub record HoldsChild (item : List ℕ) : Type 0 where
   pub inner : HoldsInner item
-  pub short : length item ≤ 5 + LONGEST_KEY
+  pub short : length item ≤ 260
 
 -- a page of inner items, by ascending keys of which the first is empty
 pub record HasChildren (page : Image) : Type 0 where

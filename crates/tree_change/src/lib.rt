@@ -10,6 +10,9 @@ mod root_splitting;
 mod spelling;
 mod splitting;
 
+pub use changing::{plan_insert, plan_mark, plan_remove, plan_update};
 pub use root_splitting::plan_root_split;
 pub use splitting::plan_split;
-pub use changing::{plan_insert, plan_mark, plan_remove, plan_update};
+
+#[cfg(test)]
+mod tests;

@@ -7,9 +7,9 @@ ghost use Rattle.tree_change.specs.Places.{with_key};
 ghost use Rattle.tree_change.specs.Room as spec;
 ghost use Rattle.tree_change.specs.Pages.{HasRows, IsTreePage};
 
+use crate::places::found_in;
 use page_image::{HEADER_BYTES, Kind, PAGE_BYTES, Page};
 use page_view::{LEAF_OVERHEAD, LeafItem};
-use crate::places::found_in;
 
 /// The free bytes of an inner page that has room: those of its largest item, and of that item's slot.
 pub const INNER_ROOM: u16 = 71;

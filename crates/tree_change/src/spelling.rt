@@ -58,7 +58,11 @@ pub(crate) fn leaf_item_bytes(alloc: Global, item: &LeafItem) -> Result<Bytes, W
 }
 
 /// The bytes of an inner item.
-pub(crate) fn inner_item_bytes(alloc: Global, key: &[u8], child: PageId) -> Result<Bytes, WantOfMemory>
+pub(crate) fn inner_item_bytes(
+    alloc: Global,
+    key: &[u8],
+    child: PageId,
+) -> Result<Bytes, WantOfMemory>
     requires { length key.now ≤ 255 }
     ensures { IfOk result (λ bytes. bytes ≡ inner_bytes (record { key = key.now; child = child })) }
 {

@@ -75,12 +75,7 @@ pub(crate) fn push_linked_to(
 }
 
 /// The records that make the new page of a split.
-fn right_records(
-    alloc: Global,
-    page: &Page,
-    at: u16,
-    new: PageId,
-) -> Result<Records, WantOfMemory>
+fn right_records(alloc: Global, page: &Page, at: u16, new: PageId) -> Result<Records, WantOfMemory>
     requires heavy { IsHeavy page.now.items }
     requires within { at < length page.now.items }
     ensures { IfOk result (λ records. records ≡ made_right page.now at new) }

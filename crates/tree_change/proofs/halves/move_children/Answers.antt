@@ -20,4 +20,4 @@ returns c =
     (c.move_items.new.records ≡ c.args.records.now ++ inserts c.args.new 0 (right_half c.args.page.now c.args.at))
     c.move_items.result c.move_items.ensures
     (λ e. e ∙ ap (λ (l : List Record). l ++ inserts c.args.new (c.args.at + 1 - c.args.at) (take (c.slots-slots.result - (c.args.at + 1)) (drop (c.args.at + 1) items))) first
-        ∙ moved_of_inner c.args.page.now c.args.at c.args.new c.slots-slots.result c.unwrap.result.now c.args.records.now c.requires.inner c.requires.within at c.slots-slots.ensures.value)
+    ∙ moved_of_inner c.args.page.now c.args.at c.args.new c.slots-slots.result c.unwrap.result.now c.args.records.now c.requires.inner c.requires.within at c.slots-slots.ensures.value)

@@ -23,5 +23,5 @@ loop-i-preserved c =
     ∙ ap (λ (l : List Record). l ++ InsertSlot c.args.new (c.loop-i.i - c.args.shift) c.unwrap.result.now ∷ []) c.loop-i.invariant
     ∙ append_assoc c.args.records.now moved (InsertSlot c.args.new (c.loop-i.i - c.args.shift) c.unwrap.result.now ∷ [])
     ∙ ap (λ (l : List Record). c.args.records.now ++ l)
-        (sym (inserts_more c.args.new c.args.from c.args.shift c.loop-i.i (c.loop-i.i - c.args.shift) items c.unwrap.result.now
-        c.loop-i.auto.i (let within = c.requires.within in omega arith) c.requires.shift refl at))
+    (sym (inserts_more c.args.new c.args.from c.args.shift c.loop-i.i (c.loop-i.i - c.args.shift) items c.unwrap.result.now
+    c.loop-i.auto.i (let within = c.requires.within in omega arith) c.requires.shift refl at))

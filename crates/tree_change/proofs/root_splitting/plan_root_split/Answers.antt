@@ -26,6 +26,6 @@ returns-clause-keeps c =
     (λ plan. Keeps c.args.item.now.key c.args.path.now c.args.meta.now plan) c.split_root.result
     c.split_root.ensures.room c.split_root.ensures.plan
     (λ bound at place.
-        subst (λ (o : Image). Keeps c.args.item.now.key c.args.path.now c.args.meta.now (root_split_plan o at c.args.meta.now)) (sym e)
-        (root_keeps c.args.item.now.key c.args.path.now at c.args.meta.now (subst (λ (o : Image). IsSplitPlace o.items at) e place)
-        (subst IsImage e c.keeps_rules.ensures) c.requires.low c.requires.meta bound))
+    subst (λ (o : Image). Keeps c.args.item.now.key c.args.path.now c.args.meta.now (root_split_plan o at c.args.meta.now)) (sym e)
+    (root_keeps c.args.item.now.key c.args.path.now at c.args.meta.now (subst (λ (o : Image). IsSplitPlace o.items at) e place)
+    (subst IsImage e c.keeps_rules.ensures) c.requires.low c.requires.meta bound))

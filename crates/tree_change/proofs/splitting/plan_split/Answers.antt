@@ -62,6 +62,6 @@ returns-clause-keeps c =
     (λ plan. Keeps c.args.item.now.key c.args.path.now c.args.meta.now plan) c.split_below.result
     c.split_below.ensures.room c.split_below.ensures.plan
     (λ bound at place.
-        subst (λ (o : Image). Keeps c.args.item.now.key c.args.path.now c.args.meta.now (split_plan c.args.item.now.key o c.index-pages-above-3.result at c.args.meta.now)) (sym r2)
-        (subst (λ (o : Image). Keeps c.args.item.now.key c.args.path.now c.args.meta.now (split_plan c.args.item.now.key (page_on path above) o at c.args.meta.now)) (sym r3)
-        (split_keeps key path above at c.args.meta.now (omega (arith, long, within)) (subst (λ (o : Image). IsSplitPlace o.items at) r3 place) image room c.requires.meta bound)))
+    subst (λ (o : Image). Keeps c.args.item.now.key c.args.path.now c.args.meta.now (split_plan c.args.item.now.key o c.index-pages-above-3.result at c.args.meta.now)) (sym r2)
+    (subst (λ (o : Image). Keeps c.args.item.now.key c.args.path.now c.args.meta.now (split_plan c.args.item.now.key (page_on path above) o at c.args.meta.now)) (sym r3)
+    (split_keeps key path above at c.args.meta.now (omega (arith, long, within)) (subst (λ (o : Image). IsSplitPlace o.items at) r3 place) image room c.requires.meta bound)))
