@@ -1,13 +1,11 @@
 -- The plans that change one item carry a tree to the tree of the changed items.
-use Rattle.std.proofs.Common.{◌≡◌, ◌≢◌, ◌<◌, ◌≤◌, ◌+◌, ◌-◌, ℕ, zero, suc, Bool, true, false, cond, eqb, List, [], ◌∷◌, ◌++◌, length, take, drop, get_or, slice_get, Option, Some, None, refl, sym, ap, subst, ◌∙◌, arith, inl, inr}
-use Rattle.std.specs.Prelude.{◌⊎◌, nat_eq, insert, remove}
+use Rattle.std.proofs.Common.{◌≡◌, ◌≢◌, ◌<◌, ◌≤◌, ◌+◌, ◌-◌, ℕ, suc, Bool, true, false, cond, eqb, List, [], ◌∷◌, ◌++◌, length, take, drop, get_or, Option, None, refl, sym, ap, subst, ◌∙◌, arith, inl, inr}
+use Rattle.std.specs.Prelude.{nat_eq, insert, remove}
 use Rattle.std.specs.List.{AllByRecursion, IsDistinct}
-use Rattle.std.proofs.lemmas.List as lists
-use Rattle.std.proofs.lemmas.List.{length-append, length-take-le, take_at, drop_at, append_assoc}
+use Rattle.std.proofs.lemmas.List.{length-append, length-take-le, take_at, drop_at}
 use Rattle.std.proofs.lemmas.List.Edits.{length-remove}
 use Rattle.std.proofs.lemmas.List.Sums.{sum_by-remove}
 use Rattle.std.proofs.lemmas.Bool.Decides.{eqb_tells}
-use Rattle.rm_base.specs.Fields.{field}
 use Rattle.rm_base.proofs.FieldLaws.{length-field}
 use Rattle.page_image.specs.declared.kind.Kind.{Kind}
 use Rattle.page_image.specs.declared.kind.Kind.TheVariants.{Leaf}
@@ -15,12 +13,11 @@ use Rattle.page_image.specs.declared.TheConstants.{PAGE_BYTES, HEADER_BYTES}
 use Rattle.page_image.specs.Image.{Image, used, free_of, is_slotted, inserted, removed, CanInsert, CanRemove}
 use Rattle.page_view.specs.declared.leaf.LeafItem.{LeafItem}
 use Rattle.page_view.specs.Leaf.{leaf_bytes, IsLeaf}
-use Rattle.page_view.specs.Keys.{keys_of, Ascend}
+use Rattle.page_view.specs.Keys.{keys_of}
 use Rattle.page_view.proofs.LeafLaws.{leaf_holds}
 use Rattle.redo_record.specs.declared.redo.Record.{Record}
 use Rattle.redo_record.specs.declared.redo.Record.TheVariants.{Make, Patch, InsertSlot, RemoveSlot, Cut, Link}
-use Rattle.redo_record.specs.declared.plans.Plan.{Plan}
-use Rattle.redo_record.specs.Effect.{page_of, Applies, effect, step, after_records, RecordsApply}
+use Rattle.redo_record.specs.Effect.{page_of, step, after_records, RecordsApply}
 use Rattle.bplus_tree.specs.Tree.{NotBelow, Below, IsLeafPage, Tree, Stands, Linked, leaves_of}
 use Rattle.tree_change.specs.Way.{IsWayTo}
 use Rattle.tree_change.specs.Pages.{HasRows}
@@ -31,10 +28,10 @@ use Rattle.tree_change.specs.Effects.{pages_after, TouchesOnly, with_item, witho
 use Rattle.tree_change.proofs.PlaceLaws.{absent_before, absent_behind, lesser_absent, lesser_found, found_before, found_behind, with_key_absent, with_key_found, as_many}
 use Rattle.tree_change.proofs.ListLaws.{all_front, all_back}
 use Rattle.tree_change.proofs.SortLaws.{placed}
-use Rattle.tree_change.proofs.EffectLaws.{step_own, step_other, NoneFor, untouched, none_apply}
+use Rattle.tree_change.proofs.EffectLaws.{step_own, NoneFor, untouched, none_apply}
 use Rattle.tree_change.proofs.RowLaws.{key_of_leaf, leaf_with, leaf_without, with_within, without_within}
-use Rattle.tree_change.proofs.WayLaws.{At, at_leaf, leaf_rows}
-use Rattle.tree_change.proofs.NodeLaws.{IsNode, stands_nodes, Without, distinct_front, distinct_back, same_without, leaves_same, linked_same}
+use Rattle.tree_change.proofs.WayLaws.{At, at_leaf}
+use Rattle.tree_change.proofs.NodeLaws.{IsNode, stands_nodes, distinct_front, distinct_back, same_without, leaves_same, linked_same}
 
 -- ---- records that change the items of one page
 

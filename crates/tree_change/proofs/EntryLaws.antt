@@ -1,16 +1,16 @@
 -- The entries of an inner page, and the one on the way to a key.
-use Rattle.std.proofs.Common.{◌≡◌, ◌≢◌, ◌<◌, ◌≤◌, ◌+◌, ℕ, zero, suc, List, [], ◌∷◌, ◌++◌, length, map, take, drop, get_or, slice_get, Option, Some, None, refl, sym, ap, subst, ◌∙◌, arith}
+use Rattle.std.proofs.Common.{◌≡◌, ◌≢◌, ◌<◌, ◌+◌, ℕ, zero, suc, List, [], ◌∷◌, ◌++◌, length, map, get_or, slice_get, Option, Some, refl, sym, ap, subst, ◌∙◌, arith}
 use Rattle.std.specs.List.{AllByRecursion}
 use Rattle.std.proofs.lemmas.List.{take_at, map-append, get_or_at, length-map, length-append, append_assoc}
-use Rattle.std.proofs.lemmas.Option.{slice_get_within, same_Some, get_or_from_slice_get}
+use Rattle.std.proofs.lemmas.Option.{slice_get_within, same_Some}
 use Rattle.std.specs.declared.cmp.Ordering.TheVariants.{Less, Greater}
 use Rattle.rm_base.specs.Fields.{field}
 use Rattle.page_view.specs.Inner.{InnerItem, inner_bytes, IsInner}
-use Rattle.page_view.specs.Keys.{key_in, keys_of, key_cmp, GreaterFrom, IsChildFor}
+use Rattle.page_view.specs.Keys.{key_in, keys_of, key_cmp, IsChildFor}
 use Rattle.page_view.proofs.InnerLaws.{one_inner}
 use Rattle.bplus_tree.specs.Tree.{NotBelow, Below}
 use Rattle.tree_change.proofs.PlaceLaws.{turned}
-use Rattle.tree_change.proofs.PartLaws.{Child, Front, Back, Focus}
+use Rattle.tree_change.proofs.PartLaws.{Child, Front, Back}
 
 pub key_of_entry : (e : InnerItem) → key_in (inner_bytes e) ≡ e.key
 key_of_entry e = take_at e.key (field 4 e.child) (length e.key) refl

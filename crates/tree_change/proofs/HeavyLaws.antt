@@ -1,14 +1,12 @@
 -- A page with too little room takes more than half a page.
-use Rattle.std.proofs.Common.{◌≡◌, ◌<◌, ◌≤◌, ◌+◌, ◌-◌, ℕ, Bool, true, false, cond, List, [], ◌∷◌, length, refl, sym, ap, ◌∙◌, arith, subst, inl, inr}
-use Rattle.std.specs.Prelude.{◌⊎◌}
-use Rattle.std.specs.List.{AllByRecursion}
+use Rattle.std.proofs.Common.{◌≡◌, ◌<◌, ◌-◌, ℕ, true, false, List, refl, ap, arith, inl, inr}
 use Rattle.std.proofs.lemmas.Bool.Decides.{nat_tests}
 use Rattle.page_image.specs.declared.kind.Kind.TheVariants.{Leaf, Inner}
 use Rattle.page_image.specs.declared.TheConstants.{PAGE_BYTES, HEADER_BYTES}
 use Rattle.page_image.specs.Image.{Image, used, is_inner, is_slotted, free_of}
 use Rattle.page_view.specs.declared.leaf.LeafItem.{LeafItem}
 use Rattle.page_view.specs.Leaf.{IsLeaf, HoldsLeaf}
-use Rattle.tree_change.specs.Pages.{HasRows, HoldsChild, HasChildren, IsTreePage}
+use Rattle.tree_change.specs.Pages.{HoldsChild, IsTreePage}
 use Rattle.tree_change.specs.Room.{size_of, room_for, lacks_room}
 use Rattle.tree_change.specs.Splits.{IsSmall, IsHeavy}
 use Rattle.tree_change.proofs.ListLaws.{all_weaker}

@@ -1,12 +1,11 @@
 -- The pages of a tree with one page more, and its leaves' links.
-use Rattle.std.proofs.Common.{◌≡◌, ◌≢◌, ◌<◌, ℕ, Bool, true, false, cond, eqb, List, [], ◌∷◌, ◌++◌, refl, sym, ap, subst, ◌∙◌}
+use Rattle.std.proofs.Common.{◌≡◌, ◌≢◌, ◌<◌, ℕ, Bool, false, cond, eqb, List, [], ◌∷◌, ◌++◌, refl, sym, ap, ◌∙◌}
 use Rattle.std.specs.Prelude.{filter, nat_eq}
 use Rattle.std.specs.List.{AllByRecursion, IsDistinct}
 use Rattle.std.proofs.lemmas.Bool.{ne_eqb}
-use Rattle.std.proofs.lemmas.List.Elements.{filter-append}
 use Rattle.std.proofs.lemmas.Map.Keys.{IsDistinct-head, IsDistinct-tail, IsDistinct-cons}
 use Rattle.page_image.specs.Image.{Image}
-use Rattle.bplus_tree.specs.Tree.{is_leaf, leaves_of, Linked}
+use Rattle.bplus_tree.specs.Tree.{Linked}
 use Rattle.tree_change.proofs.ListLaws.{all_front, all_back, all_join, all_weaker}
 use Rattle.tree_change.proofs.NodeLaws.{Without}
 

@@ -1,15 +1,14 @@
 -- Items that join a page one by one.
-use Rattle.std.proofs.Common.{◌≡◌, ◌≢◌, ◌<◌, ◌≤◌, ◌+◌, ◌-◌, ℕ, zero, suc, Bool, true, false, List, [], ◌∷◌, ◌++◌, length, take, drop, refl, sym, ap, subst, ◌∙◌, arith}
-use Rattle.std.specs.Prelude.{insert, sum_by}
+use Rattle.std.proofs.Common.{◌≡◌, ◌≤◌, ◌+◌, ◌-◌, ℕ, true, List, [], ◌∷◌, ◌++◌, length, take, drop, refl, sym, ap, subst, ◌∙◌, arith}
+use Rattle.std.specs.Prelude.{insert}
 use Rattle.std.specs.List.{AllByRecursion}
-use Rattle.std.proofs.lemmas.List.{take_all, drop_all, append_assoc, append-nil, length-append}
+use Rattle.std.proofs.lemmas.List.{append_assoc, append-nil, length-append}
 use Rattle.std.proofs.lemmas.List.Edits.{insert_end}
 use Rattle.std.proofs.lemmas.List.Sums.{sum_by-append, sum_by-cons, sum_by-take-drop}
 use Rattle.page_image.specs.declared.TheConstants.{PAGE_BYTES, HEADER_BYTES}
-use Rattle.page_image.specs.Image.{Image, used, free_of, is_slotted, inserted, CanInsert}
-use Rattle.redo_record.specs.declared.redo.Record.{Record}
+use Rattle.page_image.specs.Image.{Image, used, free_of, is_slotted, inserted}
 use Rattle.redo_record.specs.declared.redo.Record.TheVariants.{InsertSlot}
-use Rattle.redo_record.specs.Effect.{page_of, effect, after_records, RecordsApply}
+use Rattle.redo_record.specs.Effect.{page_of, after_records, RecordsApply}
 use Rattle.tree_change.specs.Splits.{inserts}
 use Rattle.tree_change.proofs.EffectLaws.{own_apply, own_after}
 

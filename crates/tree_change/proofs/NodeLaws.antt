@@ -1,16 +1,15 @@
 -- The pages of a tree: their numbers and kinds, and the links of its leaves.
-use Rattle.std.proofs.Common.{◌≡◌, ◌≢◌, ℕ, zero, suc, Bool, true, false, eqb, List, [], ◌∷◌, ◌++◌, Option, Some, refl, sym, ap, subst, ◌∙◌, inl, inr}
-use Rattle.std.specs.Prelude.{◌⊎◌, filter, nat_eq}
+use Rattle.std.proofs.Common.{◌≡◌, ◌≢◌, ℕ, zero, suc, false, eqb, List, [], ◌∷◌, ◌++◌, Option, Some, sym, ap, subst, ◌∙◌, inl, inr}
+use Rattle.std.specs.Prelude.{◌⊎◌, nat_eq}
 use Rattle.std.specs.List.{AllByRecursion, IsDistinct}
 use Rattle.std.proofs.lemmas.Bool.{eqb-false}
 use Rattle.std.proofs.lemmas.List.Elements.{filter_agree}
 use Rattle.std.proofs.lemmas.Map.Keys.{IsDistinct-head, IsDistinct-tail}
-use Rattle.page_image.specs.declared.kind.Kind.{Kind}
 use Rattle.page_image.specs.declared.kind.Kind.TheVariants.{Leaf, Inner}
 use Rattle.page_image.specs.Image.{Image}
 use Rattle.page_view.specs.Inner.{InnerItem}
 use Rattle.bplus_tree.specs.Tree.{IsLeafPage, IsInnerPage, Parts, Stands, is_leaf, leaves_of, Linked}
-use Rattle.tree_change.proofs.ListLaws.{all_front, all_back, all_join, all_weaker}
+use Rattle.tree_change.proofs.ListLaws.{all_back, all_join, all_weaker}
 use Rattle.tree_change.proofs.PartLaws.{Child}
 use Rattle.tree_change.proofs.SpotLaws.{SameAt}
 

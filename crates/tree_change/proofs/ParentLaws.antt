@@ -1,18 +1,16 @@
 -- An inner page with an entry for the new half of a child.
-use Rattle.std.proofs.Common.{◌≡◌, ◌≢◌, ◌<◌, ◌≤◌, ◌+◌, ℕ, zero, suc, List, [], ◌∷◌, ◌++◌, length, map, take, drop, slice_get, Option, Some, None, refl, sym, ap, subst, ◌∙◌, arith}
+use Rattle.std.proofs.Common.{◌≡◌, ◌≤◌, ◌+◌, ℕ, suc, List, [], ◌∷◌, ◌++◌, length, map, drop, slice_get, Option, Some, refl, sym, ap, subst, ◌∙◌, arith}
 use Rattle.std.specs.Prelude.{insert}
 use Rattle.std.specs.List.{AllByRecursion}
-use Rattle.std.proofs.lemmas.List.{take_at, drop_at, append_assoc, append-nil, map-append, length-map, length-append}
+use Rattle.std.proofs.lemmas.List.{take_at, drop_at, append_assoc, map-append, length-map, length-append}
 use Rattle.std.proofs.lemmas.Option.{same_Some}
-use Rattle.std.specs.declared.cmp.Ordering.TheVariants.{Less, Equal, Greater}
+use Rattle.std.specs.declared.cmp.Ordering.TheVariants.{Less}
 use Rattle.page_image.specs.declared.kind.Kind.TheVariants.{Inner}
 use Rattle.page_image.specs.Image.{Image}
 use Rattle.page_view.specs.declared.leaf.TheConstants.{LONGEST_KEY}
 use Rattle.page_view.specs.Inner.{InnerItem, inner_bytes, IsInner}
-use Rattle.page_view.specs.Keys.{key_in, keys_of, key_cmp, Ascend}
+use Rattle.page_view.specs.Keys.{key_in, keys_of, key_cmp}
 use Rattle.bplus_tree.specs.Tree.{Beyond, Below, IsInnerPage, Parts, Stands}
-use Rattle.tree_change.specs.Places.{not_greater}
-use Rattle.tree_change.specs.Splits.{entry_of}
 use Rattle.tree_change.proofs.PlaceLaws.{less_trans}
 use Rattle.tree_change.proofs.ListLaws.{all_front, all_back, all_join, all_weaker}
 use Rattle.tree_change.proofs.SortLaws.{Sorted, sorted_front, sorted_back, front_less_than, sorted_at}

@@ -1,11 +1,11 @@
 -- The parts of an inner page, parted at one entry and joined again.
-use Rattle.std.proofs.Common.{◌≡◌, ◌≢◌, ℕ, List, [], ◌∷◌, ◌++◌, Option, Some, None, refl, sym, ap, subst, ◌∙◌}
+use Rattle.std.proofs.Common.{◌≡◌, ℕ, List, [], ◌∷◌, ◌++◌, Option, Some, None, refl, sym, ap, subst, ◌∙◌}
 use Rattle.std.specs.List.{AllByRecursion}
 use Rattle.std.proofs.lemmas.List.{append_assoc, append-nil}
-use Rattle.std.specs.declared.cmp.Ordering.TheVariants.{Less, Greater}
+use Rattle.std.specs.declared.cmp.Ordering.TheVariants.{Less}
 use Rattle.page_view.specs.Inner.{InnerItem}
 use Rattle.page_view.specs.Keys.{key_cmp}
-use Rattle.bplus_tree.specs.Tree.{NotBelow, Beyond, Below, Parts}
+use Rattle.bplus_tree.specs.Tree.{Beyond, Below, Parts}
 use Rattle.tree_change.proofs.PlaceLaws.{less_trans}
 use Rattle.tree_change.proofs.ListLaws.{all_front, all_back}
 

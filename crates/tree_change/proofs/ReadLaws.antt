@@ -1,8 +1,7 @@
 -- Pages that a search can be told of are pages of a tree.
-use Rattle.std.proofs.Common.{◌≡◌, ◌<◌, ◌≤◌, ◌+◌, ℕ, List, [], ◌∷◌, ◌++◌, length, map, Some, sym, ap, subst, ◌∙◌, arith, inl, inr}
-use Rattle.std.specs.Prelude.{◌⊎◌}
+use Rattle.std.proofs.Common.{◌≡◌, List, [], ◌∷◌, map, sym, subst, ◌∙◌, arith, inl, inr}
 use Rattle.std.specs.List.{AllByRecursion}
-use Rattle.std.proofs.lemmas.List.{length-map, length-append}
+use Rattle.std.proofs.lemmas.List.{length-append}
 use Rattle.std.proofs.lemmas.Option.{slice_get_within}
 use Rattle.rm_base.specs.Fields.{field}
 use Rattle.rm_base.proofs.FieldLaws.{length-field}
@@ -11,7 +10,7 @@ use Rattle.page_image.specs.Image.{Image}
 use Rattle.page_view.specs.Inner.{InnerItem, inner_bytes, IsInner}
 use Rattle.page_view.specs.Keys.{keys_of}
 use Rattle.page_view.proofs.InnerLaws.{inner_holds}
-use Rattle.bplus_tree.specs.Walk.{IsToRead, IsLeafToRead, IsInnerToRead}
+use Rattle.bplus_tree.specs.Walk.{IsToRead}
 use Rattle.tree_change.specs.Pages.{HasRows, HoldsChild, HasChildren, IsTreePage}
 use Rattle.tree_change.proofs.PlaceLaws.{as_many}
 

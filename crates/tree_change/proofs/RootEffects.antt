@@ -1,5 +1,5 @@
 -- What the records of a root split do to each page.
-use Rattle.std.proofs.Common.{◌≡◌, ◌≢◌, ◌<◌, ◌≤◌, ◌+◌, ◌-◌, ℕ, zero, suc, Bool, true, false, cond, eqb, List, [], ◌∷◌, ◌++◌, length, take, drop, refl, sym, ap, subst, ◌∙◌, arith, inl, inr}
+use Rattle.std.proofs.Common.{◌≡◌, ◌≢◌, ◌<◌, ◌≤◌, ◌+◌, ◌-◌, ℕ, Bool, true, false, cond, List, [], ◌∷◌, ◌++◌, length, take, refl, sym, ap, subst, ◌∙◌, arith, inl, inr}
 use Rattle.std.specs.Prelude.{◌⊎◌}
 use Rattle.std.specs.List.{AllByRecursion}
 use Rattle.std.proofs.lemmas.List.{length-append}
@@ -8,16 +8,15 @@ use Rattle.rm_base.proofs.FieldLaws.{length-field}
 use Rattle.page_image.specs.declared.kind.Kind.{Kind}
 use Rattle.page_image.specs.declared.kind.Kind.TheVariants.{Unmade, Meta, Leaf, Inner}
 use Rattle.page_image.specs.declared.TheConstants.{PAGE_BYTES, HEADER_BYTES}
-use Rattle.page_image.specs.Image.{Image, unmade, used, free_of, is_slotted, is_inner, LevelFits, made, inserted, cut_from, linked}
+use Rattle.page_image.specs.Image.{Image, unmade, used, is_slotted, is_inner, LevelFits, made, inserted, cut_from}
 use Rattle.redo_record.specs.declared.redo.Record.{Record}
-use Rattle.redo_record.specs.declared.redo.Record.TheVariants.{Make, Patch, InsertSlot, Cut, Link}
-use Rattle.redo_record.specs.Effect.{page_of, Applies, effect, after_records, RecordsApply}
+use Rattle.redo_record.specs.declared.redo.Record.TheVariants.{Make, InsertSlot, Cut, Link}
+use Rattle.redo_record.specs.Effect.{page_of, after_records, RecordsApply}
 use Rattle.redo_record.proofs.Fold.{after_records-append, RecordsApply-append}
-use Rattle.tree_change.specs.declared.counting.TheConstants.{COUNT_AT}
 use Rattle.tree_change.specs.Splits.{count_of, right_half, separator, inserts, linked_to, counts, entry_of, made_halves, made_root, root_split_records}
-use Rattle.tree_change.proofs.ListLaws.{all_join, all_weaker}
+use Rattle.tree_change.proofs.ListLaws.{all_join}
 use Rattle.tree_change.proofs.EffectLaws.{NoneFor, none_of, untouched, none_apply, skip, skip_apply, own_apply, other_apply, own_after, other_after}
-use Rattle.tree_change.proofs.MoveLaws.{Filled, inserts_pages, filled, inserts_apply, free_is}
+use Rattle.tree_change.proofs.MoveLaws.{inserts_pages, filled, inserts_apply}
 use Rattle.tree_change.proofs.SplitEffects.{IsMade, Apart, linked_to_pages, can_count}
 
 turn : (a b : ℕ) → a ≢ b → b ≢ a

@@ -1,26 +1,25 @@
 -- A root split leaves a tree that stands for the same items.
-use Rattle.std.proofs.Common.{◌≡◌, ◌≢◌, ◌<◌, ◌≤◌, ◌+◌, ◌-◌, ℕ, zero, suc, Bool, true, false, cond, eqb, List, [], ◌∷◌, ◌++◌, length, map, take, drop, get_or, slice_get, Option, Some, None, refl, sym, ap, subst, ◌∙◌, arith, inl, inr}
-use Rattle.std.specs.Prelude.{◌⊎◌, filter, nat_eq}
-use Rattle.std.specs.List.{AllByRecursion, IsDistinct, All}
-use Rattle.std.proofs.lemmas.List.{append_assoc, append-nil}
+use Rattle.std.proofs.Common.{◌≡◌, ◌≢◌, ◌<◌, ◌≤◌, ◌+◌, ◌-◌, ℕ, zero, suc, Bool, true, false, cond, eqb, List, [], ◌∷◌, ◌++◌, length, map, take, slice_get, Option, Some, None, refl, sym, ap, subst, ◌∙◌, arith, inl, inr}
+use Rattle.std.specs.Prelude.{nat_eq}
+use Rattle.std.specs.List.{AllByRecursion, IsDistinct}
 use Rattle.std.proofs.lemmas.List.Elements.{recursion_from_All, All-take}
 use Rattle.std.proofs.lemmas.Bool.{eq-eqb, ne_eqb}
 use Rattle.std.proofs.lemmas.Bool.Decides.{eqb_tells}
 use Rattle.page_image.specs.declared.kind.Kind.TheVariants.{Unmade, Meta, Leaf, Inner}
 use Rattle.page_image.specs.declared.TheConstants.{PAGE_BYTES, HEADER_BYTES}
-use Rattle.page_image.specs.Image.{Image, unmade, used, is_inner, is_slotted, LevelFits}
+use Rattle.page_image.specs.Image.{Image, unmade, used, is_inner, LevelFits}
 use Rattle.page_image.specs.Rules.{IsImage}
-use Rattle.page_view.specs.Inner.{InnerItem, inner_bytes, IsInner}
+use Rattle.page_view.specs.Inner.{InnerItem, inner_bytes}
 use Rattle.page_view.specs.Keys.{key_in, keys_of, key_cmp}
 use Rattle.redo_record.specs.declared.redo.Record.{Record}
 use Rattle.redo_record.specs.Effect.{after_records, RecordsApply}
 use Rattle.std.specs.declared.cmp.Ordering.TheVariants.{Less}
-use Rattle.bplus_tree.specs.Tree.{IsLeafPage, IsInnerPage, Parts, Stands, Tree, is_leaf, leaves_of, Linked}
+use Rattle.bplus_tree.specs.Tree.{IsLeafPage, IsInnerPage, Stands, Tree, is_leaf, leaves_of, Linked}
 use Rattle.tree_change.specs.Way.{IsWayTo}
 use Rattle.tree_change.specs.Places.{page_on}
-use Rattle.tree_change.specs.Splits.{IsSplitPlace, IsMeta, count_of, right_half, separator, entry_of, root_split_records, root_split_plan}
-use Rattle.tree_change.specs.Effects.{pages_after, IsFresh, Keeps}
-use Rattle.tree_change.proofs.ListLaws.{all_front, all_back, all_join, all_weaker}
+use Rattle.tree_change.specs.Splits.{IsSplitPlace, IsMeta, count_of, right_half, separator, root_split_records, root_split_plan}
+use Rattle.tree_change.specs.Effects.{pages_after, Keeps}
+use Rattle.tree_change.proofs.ListLaws.{all_weaker}
 use Rattle.tree_change.proofs.SortLaws.{all_filter}
 use Rattle.tree_change.proofs.EffectLaws.{untouched, none_apply}
 use Rattle.tree_change.proofs.EntryLaws.{key_of_entry}
@@ -31,11 +30,11 @@ use Rattle.tree_change.proofs.NodeLaws.{IsNode, stands_nodes, Without, distinct_
 use Rattle.tree_change.proofs.SiteLaws.{own_first}
 use Rattle.tree_change.proofs.SplitLaws.{Halves, ascend_at}
 use Rattle.tree_change.proofs.SplitEffects.{Apart, IsMade}
-use Rattle.tree_change.proofs.SplitTree.{unmade_apart, meta_apart, Halved, halves, tail_same, empty_parts, kept_leaf, dropped_leaf, leaves-append, all_such}
+use Rattle.tree_change.proofs.SplitTree.{unmade_apart, meta_apart, Halved, halves, tail_same, empty_parts, kept_leaf, dropped_leaf, leaves-append}
 use Rattle.tree_change.proofs.SplitKeeps.{right_fits, slotted_node}
 use Rattle.tree_change.proofs.LinkLaws.{distinct_more, filter_same, SameNext, linked_on_same}
 use Rattle.tree_change.proofs.RootEffects.{none_root, left_next, on_left, on_right, new_root, on_root, apply_left, apply_right, apply_root, apply_root_meta}
-use Rattle.tree_change.proofs.WayLaws.{At, at, path_length}
+use Rattle.tree_change.proofs.WayLaws.{at}
 
 pub record RootSetting (key : List ℕ) (path : List Image) (w : IsWayTo key path) (meta : Image) (place : ℕ) : Type 0 where
   pub is_place : IsSplitPlace (w.pages w.root).items place

@@ -1,16 +1,14 @@
 -- A leaf whose items get one more, or lose one.
-use Rattle.std.proofs.Common.{◌≡◌, ◌≢◌, ◌<◌, ◌≤◌, ◌+◌, ℕ, Bool, true, false, List, [], ◌∷◌, ◌++◌, length, Option, refl, sym, ap, subst, ◌∙◌, arith}
-use Rattle.std.specs.Prelude.{filter}
+use Rattle.std.proofs.Common.{◌≡◌, ℕ, true, false, List, ◌∷◌, ◌++◌, length, Option, refl, sym, ap, subst, ◌∙◌}
 use Rattle.std.specs.List.{AllByRecursion}
 use Rattle.std.specs.Ordering.{is_lt, is_gt}
 use Rattle.std.specs.declared.cmp.Ordering.TheVariants.{Less, Greater}
 use Rattle.std.proofs.lemmas.List.{append_assoc, append-nil, take_at}
 use Rattle.std.proofs.lemmas.List.Elements.{filter-append}
-use Rattle.page_image.specs.declared.kind.Kind.TheVariants.{Leaf}
 use Rattle.page_image.specs.Image.{Image}
-use Rattle.page_view.specs.Leaf.{leaf_bytes, HoldsLeaf, IsLeaf}
+use Rattle.page_view.specs.Leaf.{leaf_bytes, HoldsLeaf}
 use Rattle.page_view.specs.declared.leaf.LeafItem.{LeafItem}
-use Rattle.page_view.specs.Keys.{key_in, keys_of, key_cmp, Ascend}
+use Rattle.page_view.specs.Keys.{key_in, key_cmp}
 use Rattle.bplus_tree.specs.Tree.{NotBelow, Below, IsLeafPage}
 use Rattle.tree_change.specs.Places.{before, behind}
 use Rattle.tree_change.specs.Effects.{with_item, without_item}

@@ -1,17 +1,16 @@
 -- A page below the root and its parent, in their tree.
-use Rattle.std.proofs.Common.{◌≡◌, ◌≢◌, ◌<◌, ◌≤◌, ◌+◌, ℕ, zero, suc, List, [], ◌∷◌, ◌++◌, length, map, get_or, slice_get, Option, Some, None, refl, sym, ap, subst, ◌∙◌, arith}
+use Rattle.std.proofs.Common.{◌≡◌, ◌≢◌, ◌+◌, ℕ, zero, suc, List, [], ◌∷◌, ◌++◌, length, map, get_or, slice_get, Option, Some, None, sym, ap, subst, ◌∙◌, arith}
 use Rattle.std.specs.Prelude.{nat_eq}
 use Rattle.std.specs.List.{AllByRecursion, IsDistinct}
 use Rattle.std.proofs.lemmas.List.{append_assoc}
 use Rattle.page_image.specs.Image.{Image}
-use Rattle.page_view.specs.Inner.{InnerItem, inner_bytes, IsInner}
-use Rattle.page_view.specs.Keys.{keys_of, key_cmp, IsChildFor}
-use Rattle.bplus_tree.specs.Tree.{NotBelow, Below, IsLeafPage, IsInnerPage, Parts, Stands}
+use Rattle.page_view.specs.Inner.{InnerItem, inner_bytes}
+use Rattle.bplus_tree.specs.Tree.{IsInnerPage, Parts, Stands}
 use Rattle.tree_change.specs.Way.{IsWayTo}
 use Rattle.tree_change.specs.Places.{page_on, not_greater}
 use Rattle.tree_change.proofs.PlaceLaws.{not_greater_is}
 use Rattle.tree_change.proofs.ListLaws.{all_front, all_back}
-use Rattle.tree_change.proofs.PartLaws.{Child, Focus, focus}
+use Rattle.tree_change.proofs.PartLaws.{Focus, focus}
 use Rattle.tree_change.proofs.EntryLaws.{Parted, parted}
 use Rattle.tree_change.proofs.SpotLaws.{Spot}
 use Rattle.tree_change.proofs.WayLaws.{At, at, StepDown, step_down}

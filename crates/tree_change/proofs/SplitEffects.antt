@@ -1,25 +1,23 @@
 -- What the records of a split do to each page.
-use Rattle.std.proofs.Common.{◌≡◌, ◌≢◌, ◌<◌, ◌≤◌, ◌+◌, ◌-◌, ℕ, zero, suc, Bool, true, false, cond, eqb, List, [], ◌∷◌, ◌++◌, length, take, drop, refl, sym, ap, subst, ◌∙◌, arith, inl, inr}
-use Rattle.std.specs.Prelude.{◌⊎◌}
+use Rattle.std.proofs.Common.{◌≡◌, ◌≢◌, ◌≤◌, ◌+◌, ◌-◌, ℕ, Bool, true, false, cond, eqb, List, [], ◌∷◌, ◌++◌, length, refl, sym, ap, subst, ◌∙◌, arith, inl}
 use Rattle.std.specs.List.{AllByRecursion}
 use Rattle.std.proofs.lemmas.Bool.{eqb-true}
-use Rattle.std.proofs.lemmas.List.{length-append}
 use Rattle.rm_base.specs.Fields.{field}
 use Rattle.rm_base.proofs.FieldLaws.{length-field}
 use Rattle.page_image.specs.declared.kind.Kind.{Kind}
-use Rattle.page_image.specs.declared.kind.Kind.TheVariants.{Unmade, Meta, Slots, Stamps, Leaf, Inner, Undo}
+use Rattle.page_image.specs.declared.kind.Kind.TheVariants.{Unmade, Meta}
 use Rattle.page_image.specs.declared.TheConstants.{PAGE_BYTES, HEADER_BYTES}
-use Rattle.page_image.specs.Image.{Image, unmade, used, free_of, is_slotted, is_inner, has_body, LevelFits, CanMake, made, CanInsert, inserted, CanCut, cut_from, CanLink, linked, CanPatch, patched}
+use Rattle.page_image.specs.Image.{Image, unmade, used, is_slotted, is_inner, has_body, LevelFits, made, CanInsert, inserted, cut_from, linked, CanPatch}
 use Rattle.redo_record.specs.declared.redo.Record.{Record}
-use Rattle.redo_record.specs.declared.redo.Record.TheVariants.{Make, Patch, InsertSlot, Cut, Link}
-use Rattle.redo_record.specs.Effect.{page_of, Applies, effect, step, after_records, RecordsApply}
-use Rattle.redo_record.proofs.Fold.{after_records-append, RecordsApply-append, after_records-page}
+use Rattle.redo_record.specs.declared.redo.Record.TheVariants.{Make, InsertSlot, Cut, Link}
+use Rattle.redo_record.specs.Effect.{page_of, after_records, RecordsApply}
+use Rattle.redo_record.proofs.Fold.{after_records-append, RecordsApply-append}
 use Rattle.tree_change.specs.declared.counting.TheConstants.{COUNT_AT}
 use Rattle.tree_change.specs.Places.{not_greater}
 use Rattle.tree_change.specs.Splits.{count_of, right_half, separator, inserts, linked_on, linked_to, counts, entry_of, made_right, split_records}
 use Rattle.tree_change.proofs.ListLaws.{all_join}
 use Rattle.tree_change.proofs.EffectLaws.{NoneFor, none_of, untouched, none_apply, skip, skip_apply, own_apply, other_apply, own_after, other_after}
-use Rattle.tree_change.proofs.MoveLaws.{Filled, inserts_pages, filled, inserts_apply}
+use Rattle.tree_change.proofs.MoveLaws.{inserts_pages, filled, inserts_apply}
 
 -- ---- the pages of the records
 

@@ -1,32 +1,30 @@
 -- The records of a split apply to each page.
-use Rattle.std.proofs.Common.{◌≡◌, ◌≢◌, ◌<◌, ◌≤◌, ◌+◌, ◌-◌, ℕ, zero, suc, Bool, true, false, cond, eqb, List, [], ◌∷◌, ◌++◌, length, map, take, drop, get_or, refl, sym, ap, subst, ◌∙◌, arith, inl, inr}
+use Rattle.std.proofs.Common.{◌≡◌, ◌≢◌, ◌<◌, ◌≤◌, ◌+◌, ◌-◌, ℕ, suc, Bool, true, false, cond, List, [], ◌∷◌, ◌++◌, length, drop, get_or, sym, ap, subst, ◌∙◌, arith, inl, inr}
 use Rattle.std.specs.Prelude.{◌⊎◌}
-use Rattle.std.specs.List.{AllByRecursion, All}
+use Rattle.std.specs.List.{AllByRecursion}
 use Rattle.std.proofs.lemmas.List.{length-map, length-append, length-drop}
 use Rattle.std.proofs.lemmas.List.Elements.{recursion_from_All, All-drop}
 use Rattle.std.proofs.lemmas.Bool.Decides.{eqb_tells}
 use Rattle.rm_base.specs.Fields.{field}
 use Rattle.rm_base.proofs.FieldLaws.{length-field}
-use Rattle.page_image.specs.declared.kind.Kind.{Kind}
-use Rattle.page_image.specs.declared.kind.Kind.TheVariants.{Unmade, Meta, Leaf, Inner}
+use Rattle.page_image.specs.declared.kind.Kind.TheVariants.{Unmade, Leaf, Inner}
 use Rattle.page_image.specs.declared.TheConstants.{PAGE_BYTES, HEADER_BYTES}
 use Rattle.page_image.specs.Image.{Image, unmade, used, free_of, is_slotted, is_inner, CanInsert}
 use Rattle.page_image.specs.Rules.{IsImage}
-use Rattle.page_view.specs.declared.leaf.TheConstants.{LONGEST_KEY}
-use Rattle.page_view.specs.Inner.{InnerItem, inner_bytes}
+use Rattle.page_view.specs.Inner.{inner_bytes}
 use Rattle.redo_record.specs.declared.redo.Record.{Record}
-use Rattle.redo_record.specs.Effect.{after_records, RecordsApply}
+use Rattle.redo_record.specs.Effect.{RecordsApply}
 use Rattle.bplus_tree.specs.Tree.{Tree}
 use Rattle.tree_change.specs.Way.{IsWayTo}
 use Rattle.tree_change.specs.Places.{page_on, not_greater}
 use Rattle.tree_change.specs.Splits.{IsSplitPlace, IsMeta, count_of, right_half, first_without_key, without_key, separator, entry_of, split_records, split_plan}
-use Rattle.tree_change.specs.Effects.{pages_after, TouchesOnly, IsFresh, Keeps}
+use Rattle.tree_change.specs.Effects.{pages_after, Keeps}
 use Rattle.tree_change.proofs.EffectLaws.{untouched, none_apply}
-use Rattle.tree_change.proofs.MoveLaws.{used-cons, used_halves, free_is}
+use Rattle.tree_change.proofs.MoveLaws.{used-cons, used_halves}
 use Rattle.tree_change.proofs.NodeLaws.{IsNode}
 use Rattle.tree_change.proofs.WayLaws.{path_length}
-use Rattle.tree_change.proofs.SiteLaws.{Site, site, around}
-use Rattle.tree_change.proofs.SplitEffects.{Apart, apply_new, apply_parent, apply_page, apply_meta, none_else}
+use Rattle.tree_change.proofs.SiteLaws.{site, around}
+use Rattle.tree_change.proofs.SplitEffects.{apply_new, apply_parent, apply_page, apply_meta, none_else}
 use Rattle.tree_change.proofs.SplitTree.{Setting, rs_of, four_apart, grown, split_tree}
 
 -- ---- the right half fits a page

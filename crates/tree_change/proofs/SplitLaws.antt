@@ -1,9 +1,8 @@
 -- The two halves of a page of a tree.
-use Rattle.std.proofs.Common.{◌≡◌, ◌≢◌, ◌<◌, ◌≤◌, ◌+◌, ◌-◌, ℕ, zero, suc, List, [], ◌∷◌, ◌++◌, length, map, take, drop, get_or, slice_get, Option, Some, None, refl, sym, ap, subst, ◌∙◌, arith}
+use Rattle.std.proofs.Common.{◌≡◌, ◌≢◌, ◌≤◌, ℕ, zero, suc, List, [], ◌∷◌, ◌++◌, length, map, drop, get_or, slice_get, Option, Some, None, refl, sym, ap, subst, ◌∙◌, arith}
 use Rattle.std.specs.List.{AllByRecursion}
 use Rattle.std.proofs.lemmas.List as lists
 use Rattle.std.proofs.lemmas.List.{take-append-drop, drop_more, take_at, drop_at, drop-drop, length-take-le, append_assoc, append-nil, map-append, length-map, length-append}
-use Rattle.std.proofs.lemmas.List.Elements.{All-get_or, All-from_recursion}
 use Rattle.std.proofs.lemmas.Option.{same_Some}
 use Rattle.std.specs.declared.cmp.Ordering.TheVariants.{Less, Equal, Greater}
 use Rattle.rm_base.specs.Fields.{field}
@@ -14,11 +13,11 @@ use Rattle.page_view.specs.Leaf.{HoldsLeaf}
 use Rattle.page_view.specs.Inner.{InnerItem, inner_bytes, IsInner}
 use Rattle.page_view.specs.Keys.{key_in, keys_of, key_cmp, Ascend}
 use Rattle.bplus_tree.specs.Tree.{NotBelow, Beyond, Below, IsLeafPage, IsInnerPage, Parts, Stands}
-use Rattle.tree_change.specs.Splits.{without_key, first_without_key, entry_of}
-use Rattle.tree_change.proofs.PlaceLaws.{less_then, less_trans, then_less, same_key, not_greater_from}
-use Rattle.tree_change.proofs.ListLaws.{all_front, all_back, all_join, all_weaker}
-use Rattle.tree_change.proofs.SortLaws.{Sorted, sorted_from, ascend_from, sorted_front, sorted_back, front_less_than, sorted_at}
-use Rattle.tree_change.proofs.PartLaws.{Child, Front, Back, Focus, focus, join_back, parts_frame, below_less, beyond_less}
+use Rattle.tree_change.specs.Splits.{without_key, entry_of}
+use Rattle.tree_change.proofs.PlaceLaws.{then_less, same_key, not_greater_from}
+use Rattle.tree_change.proofs.ListLaws.{all_front, all_back, all_weaker}
+use Rattle.tree_change.proofs.SortLaws.{Sorted, sorted_from, ascend_from, sorted_front, sorted_back, front_less_than}
+use Rattle.tree_change.proofs.PartLaws.{Child, Focus, focus, join_back, parts_frame}
 use Rattle.tree_change.proofs.SpotLaws.{SameAt, stands_frame}
 use Rattle.tree_change.proofs.EntryLaws.{key_of_entry}
 

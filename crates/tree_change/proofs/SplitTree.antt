@@ -1,33 +1,32 @@
 -- A split below the root leaves a tree that stands for the same items.
-use Rattle.std.proofs.Common.{◌≡◌, ◌≢◌, ◌<◌, ◌≤◌, ◌+◌, ◌-◌, ℕ, zero, suc, Bool, true, false, cond, eqb, List, [], ◌∷◌, ◌++◌, length, map, take, drop, get_or, slice_get, Option, Some, None, refl, sym, ap, subst, ◌∙◌, arith, inl, inr}
-use Rattle.std.specs.Prelude.{◌⊎◌, filter, nat_eq}
+use Rattle.std.proofs.Common.{◌≡◌, ◌≢◌, ◌<◌, ◌≤◌, ◌+◌, ℕ, zero, suc, Bool, true, false, cond, List, [], ◌∷◌, ◌++◌, length, map, take, drop, get_or, Option, None, refl, sym, ap, subst, ◌∙◌, arith, inl, inr}
+use Rattle.std.specs.Prelude.{◌⊎◌, nat_eq}
 use Rattle.std.specs.List.{AllByRecursion, IsDistinct}
-use Rattle.std.proofs.lemmas.List.{take-append-drop, drop_more, append_assoc, append-nil, map-append, length-map, length-append, length-take-le, take_at, drop_at, get_or_at}
+use Rattle.std.proofs.lemmas.List.{take-append-drop, drop_more, append_assoc, map-append, length-map, take_at, drop_at, get_or_at}
 use Rattle.std.proofs.lemmas.List.Elements.{filter-append}
 use Rattle.std.proofs.lemmas.Bool.Decides.{eqb_tells}
-use Rattle.page_image.specs.declared.kind.Kind.{Kind}
 use Rattle.page_image.specs.declared.kind.Kind.TheVariants.{Unmade, Meta, Leaf, Inner}
 use Rattle.page_image.specs.Image.{Image, unmade, is_inner, inserted, cut_from, linked}
 use Rattle.page_view.specs.declared.leaf.TheConstants.{LONGEST_KEY}
-use Rattle.page_view.specs.Inner.{InnerItem, inner_bytes, IsInner}
-use Rattle.page_view.specs.Keys.{key_in, keys_of}
+use Rattle.page_view.specs.Inner.{InnerItem, inner_bytes}
+use Rattle.page_view.specs.Keys.{key_in}
 use Rattle.redo_record.specs.declared.redo.Record.{Record}
-use Rattle.redo_record.specs.Effect.{page_of, after_records}
+use Rattle.redo_record.specs.Effect.{after_records}
 use Rattle.bplus_tree.specs.Tree.{IsLeafPage, IsInnerPage, Parts, Stands, Tree, is_leaf, leaves_of, Linked}
 use Rattle.tree_change.specs.Way.{IsWayTo}
-use Rattle.tree_change.specs.Places.{page_on, not_greater}
-use Rattle.tree_change.specs.Splits.{IsSplitPlace, IsMeta, count_of, right_half, first_without_key, without_key, separator, entry_of, split_records}
+use Rattle.tree_change.specs.Places.{not_greater}
+use Rattle.tree_change.specs.Splits.{IsSplitPlace, IsMeta, count_of, right_half, first_without_key, separator, entry_of, split_records}
 use Rattle.tree_change.specs.Effects.{pages_after}
 use Rattle.tree_change.proofs.ListLaws.{all_front, all_back, all_join, all_weaker}
 use Rattle.tree_change.proofs.SortLaws.{all_filter}
 use Rattle.tree_change.proofs.EffectLaws.{untouched}
 use Rattle.tree_change.proofs.EntryLaws.{key_of_entry}
-use Rattle.tree_change.proofs.SpotLaws.{SameAt, Spot}
+use Rattle.tree_change.proofs.SpotLaws.{SameAt}
 use Rattle.tree_change.proofs.NodeLaws.{IsNode, Without}
 use Rattle.tree_change.proofs.SplitLaws.{Halves, leaf_parts, inner_parts, without_first_key}
 use Rattle.tree_change.proofs.ParentLaws.{entry_joins, parent_stands}
-use Rattle.tree_change.proofs.SplitEffects.{Apart, IsMade, on_new, on_parent, on_page, linked_page, none_else}
-use Rattle.tree_change.proofs.SiteLaws.{Site, Around, around}
+use Rattle.tree_change.proofs.SplitEffects.{Apart, on_new, on_parent, on_page, linked_page, none_else}
+use Rattle.tree_change.proofs.SiteLaws.{Site, Around}
 use Rattle.tree_change.proofs.LinkLaws.{distinct_more, filter_same, SameNext, linked_on_same, linked_more}
 
 -- ---- pages of other kinds are no pages of a tree

@@ -1,15 +1,13 @@
 -- A tree that stands, seen from one page on the way to a key.
-use Rattle.std.proofs.Common.{◌≡◌, ◌≢◌, ◌+◌, ◌≤◌, ℕ, zero, suc, List, [], ◌∷◌, ◌++◌, length, map, slice_get, Option, Some, None, refl, sym, ap, subst, ◌∙◌, arith}
-use Rattle.std.specs.Prelude.{◌⊎◌}
+use Rattle.std.proofs.Common.{◌≡◌, ◌≢◌, ℕ, zero, suc, List, [], ◌∷◌, ◌++◌, map, slice_get, Option, Some, None, refl, sym, ap, subst, ◌∙◌}
 use Rattle.std.specs.List.{AllByRecursion}
 use Rattle.std.proofs.lemmas.List.{append_assoc, append-nil}
 use Rattle.std.specs.declared.cmp.Ordering.TheVariants.{Less, Greater}
-use Rattle.page_image.specs.declared.kind.Kind.TheVariants.{Leaf, Inner}
 use Rattle.page_image.specs.Image.{Image}
 use Rattle.page_view.specs.Inner.{InnerItem, inner_bytes, IsInner}
 use Rattle.page_view.specs.Keys.{key_in, keys_of, key_cmp, IsChildFor}
-use Rattle.bplus_tree.specs.Tree.{NotBelow, Beyond, Below, IsLeafPage, IsInnerPage, Parts, Stands, Way}
-use Rattle.tree_change.proofs.PlaceLaws.{less_trans, less_then, then_less, turned_back, not_greater_from}
+use Rattle.bplus_tree.specs.Tree.{NotBelow, Beyond, Below, IsLeafPage, IsInnerPage, Parts, Stands}
+use Rattle.tree_change.proofs.PlaceLaws.{less_then, turned_back, not_greater_from}
 use Rattle.tree_change.proofs.ListLaws.{all_front, all_back, all_join, all_weaker}
 use Rattle.tree_change.proofs.PartLaws.{Child, Front, Back, Focus, focus, below_less, rejoin, parts_frame, front_frame, back_frame}
 use Rattle.tree_change.proofs.EntryLaws.{entry_keys, keys_of_entries, Parted, parted, NextAbove, own_not_greater, next_above, low_holds, high_holds}

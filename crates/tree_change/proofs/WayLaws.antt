@@ -1,6 +1,5 @@
 -- What is known of the pages on the way to a key.
-use Rattle.std.proofs.Common.{◌≡◌, ◌≢◌, ◌<◌, ◌≤◌, ◌+◌, ◌-◌, ℕ, zero, suc, List, [], ◌∷◌, ◌++◌, length, map, get_or, slice_get, Option, Some, None, refl, sym, ap, subst, ◌∙◌, arith, inl, inr}
-use Rattle.std.specs.Prelude.{◌⊎◌}
+use Rattle.std.proofs.Common.{◌≡◌, ◌<◌, ◌≤◌, ◌+◌, ◌-◌, ℕ, zero, suc, List, [], ◌∷◌, length, map, get_or, slice_get, Option, Some, None, refl, sym, ap, subst, ◌∙◌, arith, inl, inr}
 use Rattle.std.specs.List.{AllByRecursion}
 use Rattle.std.proofs.lemmas.List as lists
 use Rattle.std.proofs.lemmas.List.{length-map, length-append}
@@ -12,7 +11,7 @@ use Rattle.page_view.specs.Inner.{InnerItem, inner_bytes, IsInner}
 use Rattle.page_view.specs.Leaf.{HoldsLeaf}
 use Rattle.page_view.specs.Keys.{keys_of, Ascend, IsChildFor}
 use Rattle.page_view.proofs.InnerLaws.{inner_holds}
-use Rattle.bplus_tree.specs.Tree.{IsLeafPage, IsInnerPage, Parts, Stands, Tree, Way}
+use Rattle.bplus_tree.specs.Tree.{IsLeafPage, IsInnerPage, Parts, Stands, Way}
 use Rattle.tree_change.specs.Way.{IsWayTo}
 use Rattle.tree_change.specs.Pages.{HasRows, HoldsChild, HasChildren, IsTreePage}
 use Rattle.tree_change.specs.Places.{page_on, leaf_on}

@@ -1,6 +1,7 @@
 ghost use Rattle.std.specs.Prelude.{◌≡◌, IsTrue, IfSome};
 ghost use Rattle.page_view.specs.Leaf.{IsLeaf};
 ghost use Rattle.bplus_tree.specs.Walk.{IsToRead};
+ghost use Rattle.tree_change.specs.Pages.{HasChildren};
 
 use crate::changing::{insert_into, remove_from, replace_in};
 use crate::places::found_in;
@@ -134,13 +135,29 @@ fn way(alloc: Global, store: &Store, key: &[u8]) -> Result<Option<Path>, WantOfM
     Ok(None)
 }
 
+/// Whether the item is within the limits of one, and has no older version.
 fn within_limits(item: &LeafItem) -> bool
     ensures { IsTrue result → IsLeaf item.now }
 {
-    let _numbers = (item.trx.number(), item.older.page, item.older.slot);
-    item.key.len() <= LONGEST_KEY
-        && item.value.len() <= LARGEST_LEAF
-        && LEAF_OVERHEAD + item.key.len() + item.value.len() <= LARGEST_LEAF
+    let _trx = item.trx.number();
+    if item.older.page > 0 {
+        return false;
+    }
+    if item.older.slot > 0 {
+        return false;
+    }
+    let key = item.key.len();
+    let value = item.value.len();
+    if key > LONGEST_KEY {
+        return false;
+    }
+    if value > LARGEST_LEAF {
+        return false;
+    }
+    if LEAF_OVERHEAD + key + value > LARGEST_LEAF {
+        return false;
+    }
+    true
 }
 
 /// An item with the key and so many bytes of value.
@@ -194,8 +211,18 @@ fn root_plan(
     Ok(Some(split_root(alloc, root, meta, item)?))
 }
 
+/// Whether the page is an inner page that can be read.
+fn is_parent(page: &Page) -> bool
+    ensures { IsTrue result → HasChildren page.now }
+{
+    match page.kind() {
+        Kind::Inner => can_be_read(page),
+        _ => false,
+    }
+}
+
 /// The plan that splits a page below its parent.
-#[tactic(auto, using(crate::proofs::ReadLaws::tree_page_read, crate::proofs::ReadLaws::children_read))]
+#[tactic(auto, using(crate::proofs::ReadLaws::tree_page_read))]
 fn below_plan(
     alloc: Global,
     parent: &Page,
@@ -208,7 +235,7 @@ fn below_plan(
     if !can_be_read(page) || !lacks_room(page, item) || meta.kind() != Kind::Meta {
         return Ok(None);
     }
-    if !can_be_read(parent) || parent.kind() != Kind::Inner {
+    if !is_parent(parent) {
         return Ok(None);
     }
     Ok(Some(split_below(alloc, parent, page, meta, item)?))
@@ -447,6 +474,25 @@ fn fits(planned: Option<Result<Plan, TreeNo>>) -> Option<bool> {
     }
 }
 
+/// Whether a split below the root, and one of the root, has its pages where the meta page counts so many.
+fn both_fit(
+    alloc: Global,
+    parent: &Page,
+    full: &Page,
+    item: &LeafItem,
+    count: u32,
+) -> Result<(Option<bool>, Option<bool>), WantOfMemory> {
+    let Some(meta) = meta_page(alloc, count)? else {
+        return Ok((None, None));
+    };
+    if !within_limits(item) {
+        return Ok((None, None));
+    }
+    let below = below_plan(alloc, parent, full, &meta, item)?;
+    let root = root_plan(alloc, full, &meta, item)?;
+    Ok((fits(below), fits(root)))
+}
+
 #[test]
 fn splits_make_pages_up_to_the_last_one(rt: HostRuntime) -> Result<(), Fail> {
     let mut store = empty_tree(rt.alloc())?.ok_or("no tree")?;
@@ -455,9 +501,6 @@ fn splits_make_pages_up_to_the_last_one(rt: HostRuntime) -> Result<(), Fail> {
         assert!(rt; put(rt.alloc(), &mut store, &item)?);
     }
     let item = item_of(rt.alloc(), &int_key(9), 900, false)?;
-    if !within_limits(&item) {
-        return Err("too large".into());
-    }
     let full = store.pages.first().ok_or("no root")?.copy(rt.alloc())?;
     assert!(rt; put(rt.alloc(), &mut store, &item)?);
     let root = page_at(&store, FIRST).ok_or("no root")?;
@@ -466,11 +509,8 @@ fn splits_make_pages_up_to_the_last_one(rt: HostRuntime) -> Result<(), Fail> {
         (32767, true, false),
         (32768, false, false),
     ] {
-        let meta = meta_page(rt.alloc(), count)?.ok_or("no meta page")?;
-        let below = below_plan(rt.alloc(), root, &full, &meta, &item)?;
-        assert_eq!(rt; fits(below), Some(one), "{count}");
-        let roots = root_plan(rt.alloc(), &full, &meta, &item)?;
-        assert_eq!(rt; fits(roots), Some(two), "{count}");
+        let both = both_fit(rt.alloc(), root, &full, &item, count)?;
+        assert_eq!(rt; both, (Some(one), Some(two)), "{count}");
     }
     Ok(())
 }

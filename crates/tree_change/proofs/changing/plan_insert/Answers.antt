@@ -1,7 +1,6 @@
-use Rattle.std.proofs.Common.{◌≡◌, ◌≤◌, ap, sym, subst}
+use Rattle.std.proofs.Common.{◌≤◌, sym, subst}
 use Rattle.page_image.specs.Image.{Image}
 use Rattle.page_view.specs.Leaf.{leaf_bytes}
-use Rattle.tree_change.specs.Places.{leaf_on}
 use Rattle.tree_change.specs.Pages.{HasRows}
 use Rattle.tree_change.specs.Room.{size_of, room_for}
 use Rattle.tree_change.specs.Changes.{insert_plan}

@@ -1,4 +1,4 @@
-use Rattle.std.proofs.Common.{◌≡◌, ◌≤◌, ◌-◌, ap, sym, subst}
+use Rattle.std.proofs.Common.{◌≤◌, ◌-◌, sym, subst}
 use Rattle.page_image.specs.Image.{Image, used}
 use Rattle.page_image.specs.declared.TheConstants.{PAGE_BYTES, HEADER_BYTES}
 use Rattle.page_view.specs.Leaf.{leaf_bytes}

@@ -1,7 +1,6 @@
-use Rattle.std.proofs.Common.{◌≡◌, ◌≤◌, ◌<◌, ◌+◌, ℕ, List, [], length, take, get_or, slice_get, Some, arith, ap, sym, ◌∙◌, inl, inr, below_more}
+use Rattle.std.proofs.Common.{◌≡◌, ◌<◌, ℕ, List, [], length, take, get_or, slice_get, Some, arith, ap, sym, ◌∙◌, below_more}
 use Rattle.std.specs.Option.{option_copied}
 use Rattle.std.proofs.lemmas.Option.{get_or_from_slice_get}
-use Rattle.std.proofs.lemmas.List.{take_all}
 use Rattle.page_image.specs.Image.{used}
 use Rattle.tree_change.specs.declared.halves.TheConstants.{HALF_BYTES}
 use Rattle.tree_change.proofs.HalfLaws.{used_more, place_found, full_without_place}

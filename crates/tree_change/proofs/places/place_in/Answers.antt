@@ -1,4 +1,4 @@
-use Rattle.std.proofs.Common.{◌≡◌, ◌≤◌, ◌<◌, ◌+◌, length, arith, sym, ◌∙◌}
+use Rattle.std.proofs.Common.{◌≡◌, ◌≤◌, ◌<◌, length, arith}
 use Rattle.std.proofs.lemmas.Option.{slice_get_within}
 use Rattle.page_view.specs.Keys.{keys_of}
 use Rattle.tree_change.specs.Places.{lesser}

@@ -1,10 +1,9 @@
-use Rattle.std.proofs.Common.{◌≡◌, ◌≤◌, ◌<◌, ◌+◌, List, ℕ, [], ◌∷◌, length, slice_get, get_or, Some, arith, ap, sym, ◌∙◌}
+use Rattle.std.proofs.Common.{◌≡◌, List, ℕ, [], ◌∷◌, length, slice_get, get_or, Some, arith, ap, sym, ◌∙◌}
 use Rattle.std.specs.Option.{option_copied}
-use Rattle.std.proofs.lemmas.Option.{get_or_from_slice_get, same_Some}
+use Rattle.std.proofs.lemmas.Option.{get_or_from_slice_get}
 use Rattle.std.proofs.lemmas.List.Elements.{All-get_or, All-from_recursion}
 use Rattle.page_image.specs.Image.{used}
 use Rattle.page_view.specs.Leaf.{HoldsLeaf}
-use Rattle.tree_change.specs.Places.{with_key}
 use Rattle.tree_change.proofs.PlaceLaws.{with_key_found, with_key_absent}
 use Rattle.tree_change.proofs.room.freed.Goals as goal
 

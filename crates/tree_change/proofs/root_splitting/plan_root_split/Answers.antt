@@ -1,4 +1,4 @@
-use Rattle.std.proofs.Common.{◌≡◌, ◌≤◌, ◌<◌, ◌+◌, ℕ, true, arith, ap, sym, subst, ◌∙◌}
+use Rattle.std.proofs.Common.{◌≡◌, ◌≤◌, ◌+◌, sym, subst}
 use Rattle.page_image.specs.Image.{Image}
 use Rattle.page_image.specs.Rules.{IsImage}
 use Rattle.tree_change.specs.Places.{page_on}
