@@ -172,11 +172,17 @@ fn last_token(alloc: Global, text: &[u8]) -> Result<usize, Fail> {
 /// A statement that is cut off is a statement, or is wrong at its end, or at the token that was cut.
 #[test]
 fn beginnings(rt: HostRuntime) -> Result<(), Fail> {
-    let texts: [&[u8]; 4] = [
+    let texts: [&[u8]; 10] = [
         b"CREATE TABLE accounts (k INT PRIMARY KEY, v TEXT, w INT);",
         b"INSERT INTO t (k, v) VALUES (1, 'o''k'), (-2, NULL), ((3 + 4) * 5, 'x')",
         b"SELECT a.k, b.v FROM a JOIN b ON a.k = b.k WHERE NOT a.v <= 3 AND b.v IS NOT NULL ORDER BY k DESC LIMIT 7;",
         b"UPDATE t SET v = v * 2 - 1, w = 'q' WHERE k >= 10 OR k <> - 5",
+        b"DELETE FROM orders WHERE (a = 1 OR b < 2) AND NOT (c IS NULL OR d >= 'z');",
+        b"SELECT COUNT(*), COUNT(v), SUM(v * 3), MIN(k), MAX(- k) FROM t WHERE v IS NOT NULL",
+        b"select * from left_side join right_side on left_side.k = right_side.k",
+        b"insert into t values (NULL, 9223372036854775807, -9223372036854775808, ''), (1, 2, 3, 'a''''b')",
+        b"SELECT a + b - c * - d, (e) FROM t ORDER BY a, t.b ASC, c DESC LIMIT 0;",
+        b"CREATE TABLE wide (a TEXT, b TEXT PRIMARY KEY, c INT, d INT, e INT, f INT, g INT)",
     ];
     for text in texts {
         for len in 0..text.len() {
