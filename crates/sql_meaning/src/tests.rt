@@ -1,4 +1,4 @@
-use crate::{Action, Refusal, Resolved, resolve};
+use crate::{Refusal, Resolved, resolve};
 use rm_base::{Items, Name, Names, Text};
 use sql_statements::{Expr, Exprs, Join, Op, Orders, Select, Selected, SetItem, Sets, Stmt};
 use sql_values::{Column, Columns, Overflow, Schema, Schemas, Sort, Truth, Value};
@@ -250,28 +250,4 @@ fn refusals_of_an_insert(rt: HostRuntime) -> Result<(), Fail> {
     let named = one(alloc, null_expr())?;
     insert_of(&rt, alloc, named, b"+")?;
     insert_of(&rt, alloc, Exprs::new(alloc), b"T")
-}
-
-#[test]
-fn columns_become_places(rt: HostRuntime) -> Result<(), Fail> {
-    let alloc = rt.alloc();
-    let on = col_of(&rt, alloc, b"u", b"v")?;
-    let arg = Boxed::new(alloc, on)?;
-    let statement = select(&rt, alloc, null_expr(), Expr::IsNull { arg, not: false })?;
-    let schemas = tables(&rt, alloc, true)?;
-    let resolved = resolve(alloc, &statement, &schemas)?;
-    assert!(rt; tests_the_fourth_cell(&resolved));
-    Ok(())
-}
-
-fn tests_the_fourth_cell(resolved: &Result<Action, Refusal>) -> bool {
-    match resolved {
-        Ok(
-            Action::Select {
-                test: Some(Resolved::IsNull { arg, .. }),
-                ..
-            },
-        ) => { matches!(arg.get(), Resolved::Cell(3)) }
-        _ => false,
-    }
 }
