@@ -1,0 +1,10 @@
+pub mod Keys
+pub mod Leading
+pub mod Needed
+pub mod NeededBounds
+pub mod NeededEnds
+pub mod NeededRows
+pub mod NeededTests
+pub mod Sides
+pub mod Statements
+pub mod Tuples
