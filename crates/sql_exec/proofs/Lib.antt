@@ -1,0 +1,6 @@
+pub mod KeptLaws
+pub mod OrderLaws
+pub mod ActLaws
+pub mod WholeLaws
+pub mod InsertLaws
+pub mod RangeLaws

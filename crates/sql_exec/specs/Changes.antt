@@ -1,0 +1,60 @@
+-- Changes of tables, and the keys that they need.
+use Rattle.std.specs.Prelude.{ℕ, Bool, ◌&&◌, nat_le, if◌then◌else◌, List, [], ◌∷◌, ◌++◌, map, length, codes, pos, Option, Some, None, Result, Ok, Err, flat_map}
+use Rattle.std.specs.List.{list_any}
+use Rattle.std.specs.Ordering.{is_eq}
+use Rattle.sql_values.specs.declared.values.Sort.{Sort}
+use Rattle.sql_values.specs.declared.values.Sort.TheVariants as sort
+use Rattle.sql_values.specs.declared.values.Value.{Value}
+use Rattle.sql_values.specs.declared.values.Value.TheVariants.{Int, Text}
+use Rattle.sql_values.specs.declared.schemas.Column.{Column}
+use Rattle.sql_values.specs.declared.schemas.Schema.{Schema}
+use Rattle.sql_values.specs.Order.{value_cmp}
+use Rattle.row_codec.specs.declared.TooLarge.{TooLarge}
+use Rattle.row_codec.specs.Keys.{key_bytes}
+use Rattle.row_codec.specs.Records.{key_cell, value_bytes, record_length}
+use Rattle.sql_exec.specs.declared.changes.Change.{Change}
+
+-- the limits of a key and of a leaf record
+abbrev pub fits_key : List ℕ → Bool
+fits_key key = nat_le (length key) 64
+
+abbrev pub fits_record : ℕ → List Value → Bool
+fits_record key row = nat_le (record_length (key_bytes (key_cell key row)) (value_bytes key row)) 1000
+
+-- the row that stands under its key from now on
+unfoldable pub placing : Schema → List Value → Result Change TooLarge
+placing schema row =
+    if fits_key (key_bytes (key_cell schema.key row)) && fits_record schema.key row
+    then Ok (record { table = schema.table; key = key_bytes (key_cell schema.key row); row = Some row }) else Err (record {})
+
+-- that none stands under the row's key from now on
+unfoldable pub removal : Schema → List Value → Result Change TooLarge
+removal schema row =
+    if fits_key (key_bytes (key_cell schema.key row))
+    then Ok (record { table = schema.table; key = key_bytes (key_cell schema.key row); row = None }) else Err (record {})
+
+abbrev pub is_same : Value → Value → Bool
+is_same a b = is_eq (value_cmp a b)
+
+-- the first key that is one of those before it
+abbrev pub first_repeat : List Value → List Value → Option Value
+first_repeat before [] = None
+first_repeat before (k ∷ ks) = if list_any (is_same k) before then Some k else first_repeat (before ++ k ∷ []) ks
+
+abbrev pub keys_of : ℕ → List (List Value) → List Value
+keys_of key rows = map (key_cell key) rows
+
+abbrev pub sort_number : Sort → Value
+sort_number sort.Int = Int (pos 1)
+sort_number sort.Text = Int (pos 2)
+
+abbrev pub column_cells : Column → List Value
+column_cells c = Text c.name ∷ (sort_number c.sort ∷ [])
+
+-- A table's schema as a row of the catalog: its name, its key's place, and the name and sort of each column.
+abbrev pub schema_row : Schema → List Value
+schema_row s = Text s.table ∷ (Int (pos s.key) ∷ flat_map column_cells s.columns)
+
+-- the change that makes a table stands under a word that no table has for its name
+abbrev pub creation : Schema → Change
+creation s = record { table = codes "table"; key = s.table; row = Some (schema_row s) }

@@ -1,0 +1,6 @@
+pub mod Answer
+pub mod Changes
+pub mod Database
+pub mod Kept
+pub mod Order
+pub mod Totals

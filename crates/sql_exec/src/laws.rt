@@ -1,0 +1,12 @@
+ghost use Rattle.sql_exec.specs.Database.{FilteredIsWithout, IsWhole, JoinedIsWithout, OutsideIsNeedless};
+
+/// An outcome over rows that lack only what the statement does not need is the answer over whole tables, and
+/// an INSERT does not need the rows outside its ranges. Rows that were filtered, and pairs of such, lack only
+/// what fails the filter. It does nothing when it is run.
+#[tactic(auto, using(crate::proofs::WholeLaws::over_whole, crate::proofs::InsertLaws::outside_is_needless, crate::proofs::RangeLaws::filtered_is_without, crate::proofs::RangeLaws::joined_is_without))]
+pub fn whole_laws()
+    ensures whole { IsWhole }
+    ensures inserts { OutsideIsNeedless }
+    ensures filtered { FilteredIsWithout }
+    ensures joined { JoinedIsWithout }
+{}
