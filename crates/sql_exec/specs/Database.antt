@@ -1,4 +1,4 @@
--- Whole tables: a database, what changes make of it, and the rows that a statement does not need.
+-- Whole tables, and the rows that a statement does not need of them.
 use Rattle.std.specs.Prelude.{◌≡◌, ◌≢◌, ◌⊎◌, ℕ, Bool, flat_map, filter, ◌++◌, false, List, [], ◌∷◌, map, Option, option_map, Ok}
 use Rattle.std.specs.List.{list_any}
 use Rattle.std.specs.Option.{option_map_or}

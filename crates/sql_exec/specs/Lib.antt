@@ -1,4 +1,5 @@
 pub mod Answer
+pub mod Applied
 pub mod Changes
 pub mod Database
 pub mod Kept

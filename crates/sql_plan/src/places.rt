@@ -8,7 +8,7 @@ use std::marker::Model;
 
 /// The places of the keys of a statement's tables in the rows joined of both, and how many columns the left
 /// table has.
-#[derive(Debug, Drop)]
+#[derive(Drop)]
 pub struct Keys {
     left: usize,
     right: Option<usize>,
@@ -34,12 +34,6 @@ impl Keys {
             right: right.map(|table| width + key_place(schemas, table)),
             width,
         }
-    }
-
-    pub fn left(&self) -> usize
-        ensures { result ≡ self.now.left }
-    {
-        self.left
     }
 
     pub fn is_right(&self, place: usize) -> bool

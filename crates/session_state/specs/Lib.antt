@@ -1,0 +1,9 @@
+pub mod Room
+pub mod Machine
+pub mod Statements
+pub mod Conflicts
+pub mod Moves
+pub mod Replies
+pub mod Steps
+pub mod Runs
+pub mod Laws
