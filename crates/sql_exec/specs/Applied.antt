@@ -40,12 +40,12 @@ row_key d t row = key_bytes (key_cell (key_place d t) row)
 
 -- the rows with lesser keys, the row that stands under this key, if any, and those with greater keys
 abbrev pub placed : (List Value → List ℕ) → List ℕ → Option (List Value) → List (List Value) → List (List Value)
-placed key_of key row rows =
-    filter (λ r. is_lt (text_cmp (key_of r) key)) rows ++ (option_to_list row ++ filter (λ r. is_gt (text_cmp (key_of r) key)) rows)
+placed key_of key row others =
+    filter (λ r. is_lt (text_cmp (key_of r) key)) others ++ (option_to_list row ++ filter (λ r. is_gt (text_cmp (key_of r) key)) others)
 
 -- the rows of one table in place of those that it had
 abbrev pub with_rows : Tables → List ℕ → List (List Value) → Tables
-with_rows tables t rows = λ u. if bytes_eq u t then rows else tables u
+with_rows tables t given = λ u. if bytes_eq u t then given else tables u
 
 abbrev pub text_of : Value → List ℕ
 text_of Null = []
