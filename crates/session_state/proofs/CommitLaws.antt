@@ -1,22 +1,22 @@
 -- A commit that stands stays.
-use Rattle.std.proofs.Common.{◌≡◌, ◌≤◌, ◌<◌, ◌+◌, ◌-◌, ℕ, zero, suc, false, List, [], ◌∷◌, refl, ap, ◌∙◌, arith, nat_eq}
+use Rattle.std.proofs.Common.{◌≡◌, ◌≤◌, ◌<◌, ◌+◌, ◌-◌, ℕ, zero, suc, true, false, List, [], ◌∷◌, refl, ap, ◌∙◌, arith, nat_eq}
 use Rattle.sql_exec.specs.declared.changes.Change.{Change}
 use Rattle.session_state.specs.declared.entries.Entry.{Entry}
 use Rattle.session_state.specs.declared.entries.Entry.TheVariants as entry
 use Rattle.sql_exec.specs.Applied.{Database, applied}
-use Rattle.session_state.specs.Machine.{Machine, Parse, after_commits, last, pending_of}
+use Rattle.session_state.specs.Machine.{Machine, Parses, after_commits, committed, last, pending_of}
 use Rattle.session_state.specs.Moves.{put}
 use Rattle.session_state.specs.Steps.{Step}
-use Rattle.session_state.specs.Laws.{CommitsStay, KeepsCommits}
+use Rattle.session_state.specs.Laws.{CommitsStay, KeepsCommits, QueuesOwnChanges, SettlesChanges, WaitingStays}
 
-same_commits : (d : Database) (f g : ℕ → List Change) (first n : ℕ) → ((i : ℕ) → first < i → i ≤ first + n → f i ≡ g i) → after_commits d f first n ≡ after_commits d g first n
+-- the databases are the same where the changes are
+pub same_commits : (d : Database) (f g : ℕ → List Change) (first n : ℕ) → ((i : ℕ) → first < i → i ≤ first + n → f i ≡ g i) → after_commits d f first n ≡ after_commits d g first n
 unfolding after_commits
 same_commits d f g first zero h = refl
 same_commits d f g first (suc n) h =
     ap (λ cs. applied (after_commits d f first n) cs) (h (first + suc n) (omega arith) (omega arith))
     ∙ ap (λ e. applied e (g (first + suc n))) (same_commits d f g first n (λ i p q. h i p (omega (arith, q))))
 
--- the databases are the same where the changes are
 keeps : (old new : Machine) → new.base ≡ old.base → new.first ≡ old.first → old.count ≤ new.count → ((n : ℕ) → n ≤ old.count → new.changes n ≡ old.changes n) → KeepsCommits old new
 keeps old new b f c h = record {
   base = b;
@@ -32,7 +32,8 @@ keeps old new b f c h = record {
 still : (old new : Machine) → new.base ≡ old.base → new.first ≡ old.first → old.count ≤ new.count → new.changes ≡ old.changes → KeepsCommits old new
 still old new b f c h = keeps old new b f c (λ n p. ap (λ g. g n) h)
 
-beside : (f : ℕ → List Change) (k : ℕ) (cs : List Change) (n : ℕ) → n < k → put f k cs n ≡ f n
+-- beside it stands what stood there
+pub beside : (f : ℕ → List Change) (k : ℕ) (cs : List Change) (n : ℕ) → n < k → put f k cs n ≡ f n
 beside f k cs n p = let e : nat_eq n k ≡ false = grind arith in rw e refl
 
 added : (old new : Machine) (k : ℕ) (cs : List Change) → new.base ≡ old.base → new.first ≡ old.first → new.count ≡ old.count → old.count < k → new.changes ≡ put old.changes k cs → KeepsCommits old new
@@ -43,23 +44,23 @@ moved : (old new made : Machine) → new ≡ made → made.base ≡ old.base →
 moved old new made e b f c h =
     still old new (ap (λ m. m.base) e ∙ b) (ap (λ m. m.first) e ∙ f) (let same : new.count ≡ made.count = ap (λ m. m.count) e in omega (arith, same, c)) (ap (λ m. m.changes) e ∙ h)
 
-step : (parse : Parse) (e : Entry) (old new : Machine) → Step parse old e new → KeepsCommits old new
-step parse (entry.Join s name n) old new c = moved old new _ c.2 refl refl (omega arith) refl
-step parse (entry.Submit s text) old new c = moved old new _ c.3 refl refl (omega arith) refl
-step parse (entry.Snap s) old new c = moved old new _ c.2 refl refl (omega arith) refl
-step parse (entry.Exec s) old new c = moved old new _ c.4 refl refl (omega arith) refl
-step parse (entry.Enqueue s) old new c =
+step : (parses : Parses) (e : Entry) (old new : Machine) → Step parses old e new → KeepsCommits old new
+step parses (entry.Join s name n) old new c = moved old new _ c.2 refl refl (omega arith) refl
+step parses (entry.Submit s text) old new c = moved old new _ c.5 refl refl (omega arith) refl
+step parses (entry.Snap s) old new c = moved old new _ c.2 refl refl (omega arith) refl
+step parses (entry.Exec s) old new c = moved old new _ c.4 refl refl (omega arith) refl
+step parses (entry.Enqueue s) old new c =
     added old new (last old + 1) (pending_of (old.sessions s)) (ap (λ m. m.base) c.2) (ap (λ m. m.first) c.2) (ap (λ m. m.count) c.2) (omega arith) (ap (λ m. m.changes) c.2)
-step parse entry.Settle old new c = moved old new _ c.3 refl refl (omega arith) refl
-step parse (entry.Forget k) old new c = moved old new _ c.3 refl refl (omega arith) refl
-step parse (entry.Reply s r) old new c = moved old new _ c.1 refl refl (omega arith) refl
-step parse (entry.Timer s) old new c = moved old new _ c.2 refl refl (omega arith) refl
-step parse (entry.Down n ss) old new c = moved old new _ c.3 refl refl (omega arith) refl
-step parse (entry.Up n) old new c = moved old new _ c.2 refl refl (omega arith) refl
-step parse (entry.Opened n) old new c = moved old new _ c.4 refl refl (omega arith) refl
-step parse (entry.Ignored l) old new c = moved old new _ c.1 refl refl (omega arith) refl
-step parse (entry.Missed l) old new c = moved old new _ c.1 refl refl (omega arith) refl
-step parse (entry.End ss) old new c = moved old new _ c.2 refl refl (omega arith) refl
+step parses entry.Settle old new c = moved old new _ c.3 refl refl (omega arith) refl
+step parses (entry.Forget k) old new c = moved old new _ c.3 refl refl (omega arith) refl
+step parses (entry.Reply s r) old new c = moved old new _ c.1 refl refl (omega arith) refl
+step parses (entry.Timer s) old new c = moved old new _ c.2 refl refl (omega arith) refl
+step parses (entry.Down n ss) old new c = moved old new _ c.3 refl refl (omega arith) refl
+step parses (entry.Up n) old new c = moved old new _ c.2 refl refl (omega arith) refl
+step parses (entry.Opened n) old new c = moved old new _ c.4 refl refl (omega arith) refl
+step parses (entry.Ignored l) old new c = moved old new _ c.1 refl refl (omega arith) refl
+step parses (entry.Missed l) old new c = moved old new _ c.1 refl refl (omega arith) refl
+step parses (entry.End ss) old new c = moved old new _ c.2 refl refl (omega arith) refl
 
 both : (a b c : Machine) → KeepsCommits a b → KeepsCommits b c → KeepsCommits a c
 both a b c f g =
@@ -67,6 +68,49 @@ both a b c f g =
     let on : b.count ≤ c.count = g.count in
     keeps a c (g.base ∙ f.base) (g.first ∙ f.first) (omega (arith, up, on)) (λ n p. g.changes n (omega (arith, up, p)) ∙ f.changes n p)
 
-pub stay : CommitsStay
-stay parse [] old new l = still old new (ap (λ m. m.base) l) (ap (λ m. m.first) l) (let same : new.count ≡ old.count = ap (λ m. m.count) l in omega (arith, same)) (ap (λ m. m.changes) l)
-stay parse (e ∷ es) old new l = both old l.0 new (step parse e old l.0 l.1) (stay parse es l.0 new l.2)
+pub stay : (parses : Parses) → CommitsStay parses
+stay parses [] old new l = still old new (ap (λ m. m.base) l) (ap (λ m. m.first) l) (let same : new.count ≡ old.count = ap (λ m. m.count) l in omega (arith, same)) (ap (λ m. m.changes) l)
+stay parses (e ∷ es) old new l = both old l.0 new (step parses e old l.0 l.1) (stay parses es l.0 new l.2)
+
+-- a number's new value stands under it
+pub put_at : {A : Type 0} (f : ℕ → A) (k n : ℕ) (v : A) → n ≡ k → put f k v n ≡ v
+put_at f k n v same = let e : nat_eq n k ≡ true = grind arith in rw e refl
+
+pub queues : (parses : Parses) → QueuesOwnChanges parses
+queues parses s old new c =
+    let behind : last new ≡ old.count + (old.waiting + 1) = ap last c.2 in
+    let place : old.count + (old.waiting + 1) ≡ last old + 1 = omega arith in
+    (omega arith, ap (λ m. m.changes (last m)) c.2 ∙ put_at old.changes (last old + 1) (old.count + (old.waiting + 1)) (pending_of (old.sessions s)) place)
+
+pub waiting_stays : (parses : Parses) → WaitingStays parses
+waiting_stays parses (entry.Join s name k) old new c n p = ap (λ m. m.changes n) c.2
+waiting_stays parses (entry.Submit s text) old new c n p = ap (λ m. m.changes n) c.5
+waiting_stays parses (entry.Snap s) old new c n p = ap (λ m. m.changes n) c.2
+waiting_stays parses (entry.Exec s) old new c n p = ap (λ m. m.changes n) c.4
+waiting_stays parses (entry.Enqueue s) old new c n p =
+    ap (λ m. m.changes n) c.2 ∙ beside old.changes (last old + 1) (pending_of (old.sessions s)) n (omega (arith, p))
+waiting_stays parses entry.Settle old new c n p = ap (λ m. m.changes n) c.3
+waiting_stays parses (entry.Forget k) old new c n p = ap (λ m. m.changes n) c.3
+waiting_stays parses (entry.Reply s r) old new c n p = ap (λ m. m.changes n) c.1
+waiting_stays parses (entry.Timer s) old new c n p = ap (λ m. m.changes n) c.2
+waiting_stays parses (entry.Down k ss) old new c n p = ap (λ m. m.changes n) c.3
+waiting_stays parses (entry.Up k) old new c n p = ap (λ m. m.changes n) c.2
+waiting_stays parses (entry.Opened k) old new c n p = ap (λ m. m.changes n) c.4
+waiting_stays parses (entry.Ignored l) old new c n p = ap (λ m. m.changes n) c.1
+waiting_stays parses (entry.Missed l) old new c n p = ap (λ m. m.changes n) c.1
+waiting_stays parses (entry.End ss) old new c n p = ap (λ m. m.changes n) c.2
+
+-- one commit more
+pub one_more : (d : Database) (f g : ℕ → List Change) (first n : ℕ) (cs : List Change) → first ≤ n → ((i : ℕ) → i ≤ n → g i ≡ f i) → g (n + 1) ≡ cs
+    → after_commits d g first ((n + 1) - first) ≡ applied (after_commits d f first (n - first)) cs
+unfolding after_commits
+one_more d f g first n cs low same at =
+    ap (after_commits d g first) (let e : (n + 1) - first ≡ suc (n - first) = omega arith in e)
+    ∙ (ap (λ i. applied (after_commits d g first (n - first)) (g i)) (let e : first + suc (n - first) ≡ n + 1 = omega arith in e)
+    ∙ (ap (applied (after_commits d g first (n - first))) at
+    ∙ ap (λ e. applied e cs) (same_commits d g f first (n - first) (λ i p q. same i (omega (arith, low, q))))))
+
+pub settles_changes : (parses : Parses) → SettlesChanges parses
+settles_changes parses old new low c =
+    ap (λ m. committed m m.count) c.3
+    ∙ one_more old.base old.changes old.changes old.first old.count (old.changes (old.count + 1)) low (λ i p. refl) refl

@@ -3,3 +3,8 @@ pub mod CommitLaws
 pub mod AnswerLaws
 pub mod StepLaws
 pub mod ReplyLaws
+pub mod Alone
+pub mod Fair
+pub mod InTurn
+pub mod TurnLaws
+pub mod ServingLaws

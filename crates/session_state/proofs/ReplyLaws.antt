@@ -1,12 +1,12 @@
 -- Ok of a commit stands after the commit, and a transaction may begin.
-use Rattle.std.proofs.Common.{◌≡◌, ◌⊎◌, ℕ, Bool, true, false, [], Option, Some, None, if◌then◌else◌, is_some, nat_eq, unwrap_or, option_and_then, refl, sym, ap, subst, ◌∙◌, inl, inr, arith}
+use Rattle.std.proofs.Common.{◌≡◌, ◌⊎◌, ℕ, Bool, true, false, [], Option, Some, None, Ok, if◌then◌else◌, is_some, nat_eq, unwrap_or, option_and_then, refl, sym, ap, subst, ◌∙◌, inl, inr, arith}
 use Rattle.std.specs.Option.{option_map_or}
 use Rattle.std.specs.Result.{result_ok}
 use Rattle.sql_statements.specs.declared.statements.Stmt.{Stmt}
 use Rattle.sql_statements.specs.declared.statements.Stmt.TheVariants as stmt
 use Rattle.sql_exec.specs.declared.replies.SqlReply.{SqlReply}
 use Rattle.sql_exec.specs.declared.replies.SqlReply.TheVariants as reply
-use Rattle.session_state.specs.Machine.{Machine, NoneForced, Parse, Session, Statement, commit_of, idle, is_lasting, is_stopped, running, settled, start, wrote}
+use Rattle.session_state.specs.Machine.{Machine, NoneForced, Parses, Session, Statement, commit_of, idle, is_lasting, is_stopped, running, settled, start, wrote}
 use Rattle.session_state.specs.Moves.{answered, is_done, joined, snapped, submitted}
 use Rattle.session_state.specs.Replies.{IsReplied, MayReply, begun, done, evaluated, full, plain_end, pool_full, read_only, second_begin, stray_end}
 use Rattle.session_state.specs.Statements.{is_commit, is_write}
@@ -40,9 +40,9 @@ both_kinds stmt.Commit c w = clash (sym w)
 both_kinds stmt.Rollback c w = clash (sym c)
 
 -- a statement that is stopped does not run
-stopped_runs : {A : Type 0} (parse : Parse) (st : Stmt) (o : Option Statement) → option_map_or (λ a. a.stopped) o false ≡ true → option_and_then (λ a. if a.stopped then None else result_ok (parse a.text)) o ≡ Some st → A
-stopped_runs parse st None e f = clash (sym e)
-stopped_runs parse st (Some a) e f = clash (sym (ap is_some (sym (ap (λ b. if b then None else result_ok (parse a.text)) e) ∙ f)))
+stopped_runs : {A : Type 0} (st : Stmt) (o : Option Statement) → option_map_or (λ a. a.stopped) o false ≡ true → option_and_then (λ a. if a.stopped then None else result_ok a.read) o ≡ Some st → A
+stopped_runs st None e f = clash (sym e)
+stopped_runs st (Some a) e f = clash (sym (ap is_some (sym (ap (λ b. if b then None else result_ok a.read) e) ∙ f)))
 
 when_done : (x : Session) (st : Stmt) → is_lasting x ≡ false → EndsInCommit x st → (is_lasting x ≡ true) ⊎ (((is_write st ≡ true) × (wrote x ≡ [])) ⊎ (commit_of x ≡ settled)) → commit_of x ≡ settled
 when_done x st l e (inl a) = clash (sym a ∙ l)
@@ -65,32 +65,32 @@ when_replied m x st n l e (done i) = when_done x st l e i.2
 when_replied m x st n l e (pool_full i) = not_ok n (reply.PoolFull i.2) i.3 refl
 when_replied m x st n l e (full i) = when_full n i.4
 
-when_allowed : (parse : Parse) (m : Machine) (s n : ℕ) (st : Stmt) → MayReply parse m s (reply.Ok n) → running parse (m.sessions s) ≡ Some st → is_lasting (m.sessions s) ≡ false → EndsInCommit (m.sessions s) st → commit_of (m.sessions s) ≡ settled
-when_allowed parse m s n st (inl f) r l e = stopped_runs parse st (m.sessions s).statement f.stopped r
-when_allowed parse m s n st (inr (c, inl y)) r l e = not_ok n (reply.Syntax y.at) y.is refl
-when_allowed parse m s n st (inr (c, inr y)) r l e =
+when_allowed : (m : Machine) (s n : ℕ) (st : Stmt) → MayReply m s (reply.Ok n) → running (m.sessions s) ≡ Some st → is_lasting (m.sessions s) ≡ false → EndsInCommit (m.sessions s) st → commit_of (m.sessions s) ≡ settled
+when_allowed m s n st (inl f) r l e = stopped_runs st (m.sessions s).statement f.stopped r
+when_allowed m s n st (inr (c, inl y)) r l e = not_ok n (reply.Syntax y.at) y.is refl
+when_allowed m s n st (inr (c, inr y)) r l e =
     let one : y.0 ≡ st = ap (λ o. unwrap_or o st) (sym y.1 ∙ r) in
     when_replied m (m.sessions s) st n l e (subst (λ z. IsReplied m (m.sessions s) z (reply.Ok n)) one y.2)
 
-pub ok_is_committed : OkIsCommitted
-ok_is_committed parse s n st old new p r l e = when_allowed parse old s n st p.0 r l e
+pub ok_is_committed : (parses : Parses) → OkIsCommitted parses
+ok_is_committed parses s n st old new p r l e = when_allowed old s n st p.0 r l e
 
 calm : (b : Bool) (x y : Session) → is_stopped x ≡ false → is_stopped y ≡ false → is_stopped (if b then x else y) ≡ false
 calm true x y p q = p
 calm false x y p q = q
 
-pub begin_runs : BeginIsARun
-begin_runs parse base first name text p =
+pub begin_runs : (parses : Parses) → BeginIsARun parses
+begin_runs parses base first name text p =
     let m0 : Machine = start 2 base first in
     let m1 : Machine = joined m0 0 0 in
-    let m2 : Machine = submitted m1 0 text in
+    let m2 : Machine = submitted m1 0 (Ok stmt.Begin) in
     let m3 : Machine = snapped m2 0 in
-    let m4 : Machine = answered parse m3 0 (reply.Ok 0) in
+    let m4 : Machine = answered m3 0 (reply.Ok 0) in
     let c1 : NoneForced m1 = λ t q. calm (nat_eq t 0) (idle 0) (idle 0) refl refl in
     let c2 : NoneForced m2 = λ t q. calm (nat_eq t 0) (m2.sessions 0) (m1.sessions t) refl (c1 t q) in
     let c3 : NoneForced m3 = λ t q. calm (nat_eq t 0) (m3.sessions 0) (m2.sessions t) refl (c2 t q) in
-    let runs2 : running parse (m2.sessions 0) ≡ Some stmt.Begin = ap result_ok p in
-    let runs3 : running parse (m3.sessions 0) ≡ Some stmt.Begin = ap result_ok p in
-    let may : MaySnap parse m2 0 = record { statement = stmt.Begin; runs = runs2; stays = refl; free = refl; writer = refl } in
+    let runs2 : running (m2.sessions 0) ≡ Some stmt.Begin = refl in
+    let runs3 : running (m3.sessions 0) ≡ Some stmt.Begin = refl in
+    let may : MaySnap m2 0 = record { statement = stmt.Begin; runs = runs2; stays = refl; free = refl; writer = refl } in
     let is : IsReplied m3 (m3.sessions 0) stmt.Begin (reply.Ok 0) = begun (refl, λ e. clash (ap is_some e), refl, refl) in
-    (m4, (m1, (λ t q. refl, refl, refl), (m2, (c1, omega arith, refl, refl), (m3, (c2, may, refl), (m4, (inr (c3, inr (stmt.Begin, runs3, is)), refl), refl)))))
+    (m4, (m1, (λ t q. refl, refl, refl), (m2, (Ok stmt.Begin, c1, omega arith, refl, p, refl), (m3, (c2, may, refl), (m4, (inr (c3, inr (stmt.Begin, runs3, is)), refl), refl)))))

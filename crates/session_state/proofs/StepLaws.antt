@@ -9,8 +9,8 @@ use Rattle.sql_exec.specs.Changes.{column_cells, sort_number}
 use Rattle.session_state.specs.declared.entries.Entry.TheVariants as entry
 use Rattle.session_state.specs.Conflicts.{evaluated}
 use Rattle.sql_exec.specs.Applied.{columns_of, sort_of}
-use Rattle.session_state.specs.Machine.{Machine, Parse, Transaction, view}
-use Rattle.session_state.specs.Moves.{executed}
+use Rattle.session_state.specs.Machine.{Machine, Parses, Transaction, view}
+use Rattle.session_state.specs.Moves.{executed, submitted}
 use Rattle.session_state.specs.Runs.{Leads}
 use Rattle.sql_exec.specs.Applied.{AnswersOver}
 use Rattle.session_state.specs.Steps.{MayExec}
@@ -20,8 +20,8 @@ use Rattle.session_state.proofs.AnswerLaws.{answers_once}
 some-injective : {A : Type 0} (a b : A) → Some a ≡ Some b → a ≡ b
 some-injective a b e = ap (λ o. unwrap_or o a) e
 
-executed_once : (parse : Parse) (m : Machine) (s : ℕ) (t u : Transaction) (a b : Answer) → MayExec parse m s t a → MayExec parse m s u b → executed m s (evaluated m s t a) ≡ executed m s (evaluated m s u b)
-executed_once parse m s t u a b p q =
+executed_once : (m : Machine) (s : ℕ) (t u : Transaction) (a b : Answer) → MayExec m s t a → MayExec m s u b → executed m s (evaluated m s t a) ≡ executed m s (evaluated m s u b)
+executed_once m s t u a b p q =
     let trx : t ≡ u = some-injective t u (sym p.has ∙ q.has) in
     let st : p.statement ≡ q.statement = some-injective p.statement q.statement (sym p.runs ∙ q.runs) in
     let over : AnswersOver (view m u) p.statement a = subst (λ v. AnswersOver (view m v) p.statement a) trx p.answers in
@@ -29,27 +29,27 @@ executed_once parse m s t u a b p q =
     ap (λ v. executed m s (evaluated m s v a)) trx
     ∙ ap (λ c. executed m s (evaluated m s u c)) (answers_once (view m u) q.statement a b given q.answers)
 
-pub step_once : StepsAreDetermined
-step_once parse (entry.Join s name n) old a b p q = p.2 ∙ sym q.2
-step_once parse (entry.Submit s text) old a b p q = p.3 ∙ sym q.3
-step_once parse (entry.Snap s) old a b p q = p.2 ∙ sym q.2
-step_once parse (entry.Exec s) old a b p q = p.4 ∙ (executed_once parse old s p.0 q.0 p.1 q.1 p.3 q.3 ∙ sym q.4)
-step_once parse (entry.Enqueue s) old a b p q = p.2 ∙ sym q.2
-step_once parse entry.Settle old a b p q = p.3 ∙ sym q.3
-step_once parse (entry.Forget k) old a b p q = p.3 ∙ sym q.3
-step_once parse (entry.Reply s r) old a b p q = p.1 ∙ sym q.1
-step_once parse (entry.Timer s) old a b p q = p.2 ∙ sym q.2
-step_once parse (entry.Down n ss) old a b p q = p.3 ∙ sym q.3
-step_once parse (entry.Up n) old a b p q = p.2 ∙ sym q.2
-step_once parse (entry.Opened n) old a b p q = p.4 ∙ sym q.4
-step_once parse (entry.Ignored l) old a b p q = p.1 ∙ sym q.1
-step_once parse (entry.Missed l) old a b p q = p.1 ∙ sym q.1
-step_once parse (entry.End ss) old a b p q = p.2 ∙ sym q.2
+pub step_once : (parses : Parses) → StepsAreDetermined parses
+step_once parses one (entry.Join s name n) old a b p q = p.2 ∙ sym q.2
+step_once parses one (entry.Submit s text) old a b p q = p.5 ∙ (ap (submitted old s) (one text p.0 q.0 p.4 q.4) ∙ sym q.5)
+step_once parses one (entry.Snap s) old a b p q = p.2 ∙ sym q.2
+step_once parses one (entry.Exec s) old a b p q = p.4 ∙ (executed_once old s p.0 q.0 p.1 q.1 p.3 q.3 ∙ sym q.4)
+step_once parses one (entry.Enqueue s) old a b p q = p.2 ∙ sym q.2
+step_once parses one entry.Settle old a b p q = p.3 ∙ sym q.3
+step_once parses one (entry.Forget k) old a b p q = p.3 ∙ sym q.3
+step_once parses one (entry.Reply s r) old a b p q = p.1 ∙ sym q.1
+step_once parses one (entry.Timer s) old a b p q = p.2 ∙ sym q.2
+step_once parses one (entry.Down n ss) old a b p q = p.3 ∙ sym q.3
+step_once parses one (entry.Up n) old a b p q = p.2 ∙ sym q.2
+step_once parses one (entry.Opened n) old a b p q = p.4 ∙ sym q.4
+step_once parses one (entry.Ignored l) old a b p q = p.1 ∙ sym q.1
+step_once parses one (entry.Missed l) old a b p q = p.1 ∙ sym q.1
+step_once parses one (entry.End ss) old a b p q = p.2 ∙ sym q.2
 
-pub run_once : RunsAreDetermined
-run_once parse [] old a b p q = p ∙ sym q
-run_once parse (e ∷ es) old a b p q =
-    run_once parse es p.0 a b p.2 (subst (λ m. Leads parse m es b) (sym (step_once parse e old p.0 q.0 p.1 q.1)) q.2)
+pub run_once : (parses : Parses) → RunsAreDetermined parses
+run_once parses one [] old a b p q = p ∙ sym q
+run_once parses one (e ∷ es) old a b p q =
+    run_once parses one es p.0 a b p.2 (subst (λ m. Leads parses m es b) (sym (step_once parses one e old p.0 q.0 p.1 q.1)) q.2)
 
 sort_again : (s : Sort) → sort_of (sort_number s) ≡ s
 sort_again sort.Int = refl

@@ -7,3 +7,4 @@ pub mod Replies
 pub mod Steps
 pub mod Runs
 pub mod Laws
+pub mod Serving

@@ -7,9 +7,9 @@ use Rattle.sql_exec.specs.declared.changes.Change.{Change}
 use Rattle.sql_exec.specs.declared.replies.SqlReply.{SqlReply}
 use Rattle.sql_exec.specs.Applied.{Database, applied}
 
--- a statement's text as a statement, or the offset at which it is refused
-abbrev pub Parse : Type 0
-Parse = List ℕ → Result Stmt ℕ
+-- which texts are read as which statements, or are wrong at which offset
+abbrev pub Parses : Type 1
+Parses = List ℕ → Result Stmt ℕ → Type 0
 
 -- the number of the commit that it sees last, its own changes, and whether a BEGIN opened it
 pub record Transaction : Type 0 where
@@ -23,10 +23,10 @@ pub data Commit : Type 0 where
   queued : Commit
   settled : Commit
 
--- a statement that is not answered: its text, the reply that is due, its own changes, where its commit is, and
--- whether it was stopped, so that the due reply is forced
+-- a statement that is not answered: what its text was read as, the reply that is due, its own changes, where its
+-- commit is, and whether it was stopped, so that the due reply is forced
 pub record Statement : Type 0 where
-  pub text : List ℕ
+  pub read : Result Stmt ℕ
   pub due : Option SqlReply
   pub changes : List Change
   pub commit : Commit
@@ -118,9 +118,9 @@ wrote x = option_map_or (λ a. a.changes) x.statement []
 abbrev pub commit_of : Session → Commit
 commit_of x = option_map_or (λ a. a.commit) x.statement unqueued
 
--- the session's statement, where it has one that is not stopped and that parses
-abbrev pub running : Parse → Session → Option Stmt
-running parse x = option_and_then (λ a. if a.stopped then None else result_ok (parse a.text)) x.statement
+-- the session's statement, where it has one that is not stopped and whose text is a statement
+abbrev pub running : Session → Option Stmt
+running x = option_and_then (λ a. if a.stopped then None else result_ok a.read) x.statement
 
 -- no reply is forced
 abbrev pub NoneForced : Machine → Type 0

@@ -1,5 +1,5 @@
 -- What each entry makes of the state.
-use Rattle.std.specs.Prelude.{ℕ, ◌+◌, ◌-◌, Bool, true, false, ◌&&◌, ◌||◌, not, nat_eq, if◌then◌else◌, List, [], ◌∷◌, ◌++◌, Option, Some, None, option_map, option_and_then}
+use Rattle.std.specs.Prelude.{ℕ, ◌+◌, ◌-◌, Bool, true, false, ◌&&◌, ◌||◌, not, nat_eq, if◌then◌else◌, List, [], ◌∷◌, ◌++◌, Option, Some, None, Result, option_map, option_and_then}
 use Rattle.std.specs.List.{list_any}
 use Rattle.std.specs.Option.{option_map_or}
 use Rattle.std.specs.Result.{result_ok}
@@ -8,7 +8,7 @@ use Rattle.sql_exec.specs.declared.changes.Change.{Change}
 use Rattle.sql_exec.specs.declared.replies.SqlReply.{SqlReply}
 use Rattle.sql_exec.specs.declared.replies.SqlReply.TheVariants as reply
 use Rattle.session_state.specs.Conflicts.{Evaluated}
-use Rattle.session_state.specs.Machine.{Machine, Parse, Session, Statement, Transaction, unqueued, queued, settled, idle, is_lasting, is_some_of, last, pending_of}
+use Rattle.session_state.specs.Machine.{Machine, Session, Statement, Transaction, unqueued, queued, settled, idle, is_lasting, is_some_of, last, pending_of}
 use Rattle.session_state.specs.Statements.{is_begin, is_commit, is_ending, is_write}
 
 -- a function with one value changed
@@ -32,22 +32,22 @@ passed m = record m { forgot = false }
 abbrev pub joined : Machine → ℕ → ℕ → Machine
 joined m s n = record m { joined = m.joined + 1; sessions = put m.sessions s (idle n); forgot = false }
 
-abbrev pub fresh : List ℕ → Statement
-fresh text = record { text = text; due = None; changes = []; commit = unqueued; stopped = false }
+abbrev pub fresh : Result Stmt ℕ → Statement
+fresh read = record { read = read; due = None; changes = []; commit = unqueued; stopped = false }
 
 -- the statement is stopped, and this reply is forced
 abbrev pub forced : SqlReply → Statement → Statement
 forced r a = record a { due = Some r; stopped = true }
 
 -- where the node is not up the statement is refused; where a transaction was lost, the session is told so once
-abbrev pub asking : Bool → List ℕ → Session → Session
-asking up text x =
-    if not up then record x { statement = Some (forced reply.Unavailable (fresh text)) }
-    else (if x.lost then record x { lost = false; statement = Some (forced reply.Lost (fresh text)) }
-    else record x { statement = Some (fresh text) })
+abbrev pub asking : Bool → Result Stmt ℕ → Session → Session
+asking up read x =
+    if not up then record x { statement = Some (forced reply.Unavailable (fresh read)) }
+    else (if x.lost then record x { lost = false; statement = Some (forced reply.Lost (fresh read)) }
+    else record x { statement = Some (fresh read) })
 
-abbrev pub submitted : Machine → ℕ → List ℕ → Machine
-submitted m s text = with_session m s (asking (m.up (m.sessions s).node) text (m.sessions s))
+abbrev pub submitted : Machine → ℕ → Result Stmt ℕ → Machine
+submitted m s read = with_session m s (asking (m.up (m.sessions s).node) read (m.sessions s))
 
 abbrev pub snapshot : ℕ → Transaction
 snapshot n = record { snap = n; pending = []; lasting = false }
@@ -72,19 +72,19 @@ executed m s e = with_session m s (told_session e (m.sessions s))
 abbrev pub due_in_queue : Option Stmt → Option SqlReply → Option SqlReply
 due_in_queue st due = if option_map_or is_commit st false then Some (reply.Ok 0) else due
 
-abbrev pub in_queue : Parse → Statement → Statement
-in_queue parse a = record a { commit = queued; due = due_in_queue (result_ok (parse a.text)) a.due }
+abbrev pub in_queue : Statement → Statement
+in_queue a = record a { commit = queued; due = due_in_queue (result_ok a.read) a.due }
 
-abbrev pub queued_session : Parse → Session → Session
-queued_session parse x = record x { transaction = None; statement = option_map (in_queue parse) x.statement }
+abbrev pub queued_session : Session → Session
+queued_session x = record x { transaction = None; statement = option_map in_queue x.statement }
 
 -- the transaction's changes stand at the queue's end, and the session waits for them
-abbrev pub enqueued : Parse → Machine → ℕ → Machine
-enqueued parse m s = record m {
+abbrev pub enqueued : Machine → ℕ → Machine
+enqueued m s = record m {
   waiting = m.waiting + 1;
   changes = put m.changes (last m + 1) (pending_of (m.sessions s));
   owner = put m.owner (last m + 1) (Some s);
-  sessions = put m.sessions s (queued_session parse (m.sessions s));
+  sessions = put m.sessions s (queued_session (m.sessions s));
   forgot = false;
 }
 
@@ -111,19 +111,19 @@ disowned owner ss = λ n. if is_in_some ss (owner n) then None else owner n
 abbrev pub outlasts : Option Stmt → Transaction → Option Transaction
 outlasts st t = if t.lasting && not (option_map_or (λ s. is_write s || is_ending s) st false) then Some t else None
 
-abbrev pub parsed : Parse → Session → Option Stmt
-parsed parse x = option_and_then (λ a. result_ok (parse a.text)) x.statement
+abbrev pub asked : Session → Option Stmt
+asked x = option_and_then (λ a. result_ok a.read) x.statement
 
-abbrev pub given_up : Parse → Session → Session
-given_up parse x = record x {
-  transaction = option_and_then (outlasts (parsed parse x)) x.transaction;
+abbrev pub given_up : Session → Session
+given_up x = record x {
+  transaction = option_and_then (outlasts (asked x)) x.transaction;
   statement = option_map (forced reply.Unavailable) x.statement;
 }
 
-abbrev pub timed_out : Parse → Machine → ℕ → Machine
-timed_out parse m s = record m {
+abbrev pub timed_out : Machine → ℕ → Machine
+timed_out m s = record m {
   owner = disowned m.owner (s ∷ []);
-  sessions = put m.sessions s (given_up parse (m.sessions s));
+  sessions = put m.sessions s (given_up (m.sessions s));
   forgot = false;
 }
 
@@ -177,8 +177,8 @@ stays st r t =
     else (if is_and is_begin st r then Some (record t { lasting = true })
     else (if t.lasting then Some t else None))
 
-abbrev pub answered_session : Parse → SqlReply → Session → Session
-answered_session parse r x = record x { transaction = option_and_then (stays (parsed parse x) r) x.transaction; statement = None }
+abbrev pub answered_session : SqlReply → Session → Session
+answered_session r x = record x { transaction = option_and_then (stays (asked x) r) x.transaction; statement = None }
 
-abbrev pub answered : Parse → Machine → ℕ → SqlReply → Machine
-answered parse m s r = with_session m s (answered_session parse r (m.sessions s))
+abbrev pub answered : Machine → ℕ → SqlReply → Machine
+answered m s r = with_session m s (answered_session r (m.sessions s))

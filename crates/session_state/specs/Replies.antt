@@ -4,7 +4,7 @@ use Rattle.sql_statements.specs.declared.statements.Stmt.{Stmt}
 use Rattle.sql_statements.specs.declared.statements.Stmt.TheVariants as stmt
 use Rattle.sql_exec.specs.declared.replies.SqlReply.{SqlReply}
 use Rattle.sql_exec.specs.declared.replies.SqlReply.TheVariants as reply
-use Rattle.session_state.specs.Machine.{Machine, Parse, Session, Statement, unqueued, settled, commit_of, due_of, is_lasting, is_open, is_stopped, NoneForced, pending_of, running, wrote}
+use Rattle.session_state.specs.Machine.{Machine, Session, Statement, unqueued, settled, commit_of, due_of, is_lasting, is_open, is_stopped, NoneForced, pending_of, running, wrote}
 use Rattle.session_state.specs.Moves.{is_done}
 use Rattle.session_state.specs.Statements.{is_ending, is_select, is_write}
 
@@ -14,13 +14,13 @@ pub record IsForced (m : Machine) (s : ℕ) (r : SqlReply) : Type 0 where
   pub due : due_of (m.sessions s) ≡ Some r
   pub lowest : (t : ℕ) → t < s → is_stopped (m.sessions t) ≡ false
 
--- a text that is no statement is told its offset
-pub record IsSyntax (parse : Parse) (x : Session) (r : SqlReply) : Type 0 where
+-- a text that is no statement is told where it is wrong
+pub record IsSyntax (x : Session) (r : SqlReply) : Type 0 where
   pub asked : Statement
   pub at : ℕ
   pub has : x.statement ≡ Some asked
   pub going : asked.stopped ≡ false
-  pub refused : parse asked.text ≡ Err at
+  pub refused : asked.read ≡ Err at
   pub is : r ≡ reply.Syntax at
 
 -- a write on a node that does not take writes
@@ -68,7 +68,7 @@ IsFull x r =
     (n : ℕ) × (due_of x ≡ Some (reply.Ok n)) × (wrote x ≢ []) × (commit_of x ≡ unqueued)
     × ((r ≡ reply.SpaceFull) ⊎ (r ≡ reply.TrxFull))
 
--- the reply to a statement that parses and is not stopped
+-- the reply to a text that is a statement and is not stopped
 pub data IsReplied (m : Machine) (x : Session) (st : Stmt) (r : SqlReply) : Type 0 where
   read_only : IsReadOnly m x st r → IsReplied m x st r
   second_begin : IsSecondBegin x st r → IsReplied m x st r
@@ -81,9 +81,9 @@ pub data IsReplied (m : Machine) (x : Session) (st : Stmt) (r : SqlReply) : Type
   full : IsFull x r → IsReplied m x st r
 
 -- a forced reply comes before all else; any other needs that none is forced
-abbrev pub MayReply : Parse → Machine → ℕ → SqlReply → Type 0
-MayReply parse m s r =
+abbrev pub MayReply : Machine → ℕ → SqlReply → Type 0
+MayReply m s r =
     IsForced m s r
     ⊎ (NoneForced m
-    × (IsSyntax parse (m.sessions s) r
-    ⊎ ((st : Stmt) × (running parse (m.sessions s) ≡ Some st) × IsReplied m (m.sessions s) st r)))
+    × (IsSyntax (m.sessions s) r
+    ⊎ ((st : Stmt) × (running (m.sessions s) ≡ Some st) × IsReplied m (m.sessions s) st r)))

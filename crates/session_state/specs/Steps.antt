@@ -1,5 +1,5 @@
 -- The steps of the table machine, by entry: what each needs, and what it does.
-use Rattle.std.specs.Prelude.{◌≡◌, ◌≢◌, ◌≤◌, ◌<◌, ◌⊎◌, ℕ, Bool, true, false, ◌&&◌, ◌||◌, nat_eq, is_some, List, [], filter, Some, None}
+use Rattle.std.specs.Prelude.{◌≡◌, ◌≢◌, ◌≤◌, ◌<◌, ◌⊎◌, ℕ, Bool, true, false, ◌&&◌, ◌||◌, nat_eq, is_some, List, [], filter, Some, None, Result}
 use Rattle.std.specs.List.{range_with_len}
 use Rattle.std.specs.Option.{option_map_or}
 use Rattle.sql_statements.specs.declared.statements.Stmt.{Stmt}
@@ -7,24 +7,24 @@ use Rattle.sql_exec.specs.Answer.{Answer, IsEvaluated}
 use Rattle.session_state.specs.declared.entries.Entry.{Entry}
 use Rattle.session_state.specs.declared.entries.Entry.TheVariants as entry
 use Rattle.session_state.specs.Conflicts.{evaluated}
-use Rattle.sql_exec.specs.Applied.{AnswersOver, Database}
-use Rattle.session_state.specs.Machine.{Machine, Parse, Session, Transaction, unqueued, commit_of, due_of, is_lasting, is_open, is_stopped, NoneForced, pending_of, running, view}
+use Rattle.sql_exec.specs.Applied.{AnswersOver}
+use Rattle.session_state.specs.Machine.{Machine, Parses, Session, Transaction, unqueued, commit_of, due_of, is_lasting, is_open, is_stopped, NoneForced, pending_of, running, view}
 use Rattle.session_state.specs.Moves.{answered, downed, enqueued, executed, forgotten, is_done, joined, opened, passed, settles, snapped, started, submitted, timed_out}
 use Rattle.session_state.specs.Replies.{MayReply}
 use Rattle.session_state.specs.Statements.{is_commit, is_ending, is_write}
 
 -- a statement that takes a snapshot, in a session with no transaction
-pub record MaySnap (parse : Parse) (m : Machine) (s : ℕ) : Type 0 where
+pub record MaySnap (m : Machine) (s : ℕ) : Type 0 where
   pub statement : Stmt
-  pub runs : running parse (m.sessions s) ≡ Some statement
+  pub runs : running (m.sessions s) ≡ Some statement
   pub stays : is_ending statement ≡ false
   pub free : (m.sessions s).transaction ≡ None
   pub writer : is_some m.writer ≡ true
 
 -- a statement that was not evaluated yet, in a transaction, and its answer over what the transaction sees
-pub record MayExec (parse : Parse) (m : Machine) (s : ℕ) (t : Transaction) (a : Answer) : Type 0 where
+pub record MayExec (m : Machine) (s : ℕ) (t : Transaction) (a : Answer) : Type 0 where
   pub statement : Stmt
-  pub runs : running parse (m.sessions s) ≡ Some statement
+  pub runs : running (m.sessions s) ≡ Some statement
   pub kind : IsEvaluated statement
   pub writes : is_write statement ≡ true → is_open m (m.sessions s).node ≡ true
   pub has : (m.sessions s).transaction ≡ Some t
@@ -37,9 +37,9 @@ Commits x st =
     ((is_commit st ≡ true) × (is_lasting x ≡ true))
     ⊎ ((is_write st ≡ true) × (is_lasting x ≡ false) × (option_map_or is_done (due_of x) false ≡ true))
 
-pub record MayEnqueue (parse : Parse) (m : Machine) (s : ℕ) : Type 0 where
+pub record MayEnqueue (m : Machine) (s : ℕ) : Type 0 where
   pub statement : Stmt
-  pub runs : running parse (m.sessions s) ≡ Some statement
+  pub runs : running (m.sessions s) ≡ Some statement
   pub writer : is_open m (m.sessions s).node ≡ true
   pub free : commit_of (m.sessions s) ≡ unqueued
   pub changes : pending_of (m.sessions s) ≢ []
@@ -59,22 +59,24 @@ sessions_with has m = filter (λ s. has (m.sessions s)) (range_with_len 0 m.join
 abbrev pub is_busy_on : ℕ → Session → Bool
 is_busy_on n x = nat_eq x.node n && (is_some x.statement || is_some x.transaction)
 
-abbrev pub Step : Parse → Machine → Entry → Machine → Type 0
-Step parse m (entry.Join s name n) new = NoneForced m × (s ≡ m.joined) × (new ≡ joined m s n)
-Step parse m (entry.Submit s text) new = NoneForced m × (s < m.joined) × ((m.sessions s).statement ≡ None) × (new ≡ submitted m s text)
-Step parse m (entry.Snap s) new = NoneForced m × MaySnap parse m s × (new ≡ snapped m s)
-Step parse m (entry.Exec s) new =
-    (t : Transaction) × (a : Answer) × NoneForced m × MayExec parse m s t a × (new ≡ executed m s (evaluated m s t a))
-Step parse m (entry.Enqueue s) new = NoneForced m × MayEnqueue parse m s × (new ≡ enqueued parse m s)
-Step parse m entry.Settle new = NoneForced m × (is_some m.writer ≡ true) × (0 < m.waiting) × (new ≡ settles m)
-Step parse m (entry.Forget k) new = NoneForced m × (m.writer ≡ None) × (k ≤ m.waiting) × (new ≡ forgotten m k)
-Step parse m (entry.Reply s r) new = MayReply parse m s r × (new ≡ answered parse m s r)
-Step parse m (entry.Timer s) new = NoneForced m × MayTime m s × (new ≡ timed_out parse m s)
-Step parse m (entry.Down n ss) new =
+abbrev pub Step : Parses → Machine → Entry → Machine → Type 0
+Step parses m (entry.Join s name n) new = NoneForced m × (s ≡ m.joined) × (new ≡ joined m s n)
+Step parses m (entry.Submit s text) new =
+    (read : Result Stmt ℕ) × NoneForced m × (s < m.joined) × ((m.sessions s).statement ≡ None) × parses text read
+    × (new ≡ submitted m s read)
+Step parses m (entry.Snap s) new = NoneForced m × MaySnap m s × (new ≡ snapped m s)
+Step parses m (entry.Exec s) new =
+    (t : Transaction) × (a : Answer) × NoneForced m × MayExec m s t a × (new ≡ executed m s (evaluated m s t a))
+Step parses m (entry.Enqueue s) new = NoneForced m × MayEnqueue m s × (new ≡ enqueued m s)
+Step parses m entry.Settle new = NoneForced m × (is_some m.writer ≡ true) × (0 < m.waiting) × (new ≡ settles m)
+Step parses m (entry.Forget k) new = NoneForced m × (m.writer ≡ None) × (k ≤ m.waiting) × (new ≡ forgotten m k)
+Step parses m (entry.Reply s r) new = MayReply m s r × (new ≡ answered m s r)
+Step parses m (entry.Timer s) new = NoneForced m × MayTime m s × (new ≡ timed_out m s)
+Step parses m (entry.Down n ss) new =
     NoneForced m × (m.up n ≡ true) × (ss ≡ sessions_with (is_busy_on n) m) × (new ≡ downed m n ss)
-Step parse m (entry.Up n) new = NoneForced m × (m.up n ≡ false) × (new ≡ started m n)
-Step parse m (entry.Opened n) new =
+Step parses m (entry.Up n) new = NoneForced m × (m.up n ≡ false) × (new ≡ started m n)
+Step parses m (entry.Opened n) new =
     NoneForced m × (m.writer ≡ None) × (m.up n ≡ true) × (m.forgot ≡ true) × (new ≡ opened m n)
-Step parse m (entry.Ignored line) new = NoneForced m × (new ≡ passed m)
-Step parse m (entry.Missed line) new = NoneForced m × (new ≡ passed m)
-Step parse m (entry.End ss) new = NoneForced m × (ss ≡ sessions_with (λ x. is_some x.statement) m) × (new ≡ passed m)
+Step parses m (entry.Ignored line) new = NoneForced m × (new ≡ passed m)
+Step parses m (entry.Missed line) new = NoneForced m × (new ≡ passed m)
+Step parses m (entry.End ss) new = NoneForced m × (ss ≡ sessions_with (λ x. is_some x.statement) m) × (new ≡ passed m)

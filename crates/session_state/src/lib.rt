@@ -11,7 +11,7 @@ mod roomy;
 mod tests;
 
 pub use entries::{Entry, Journal, SessionNames};
-pub use laws::machine_laws;
+pub use laws::{Language, machine_laws, serving_laws};
 pub use places::{Asked, Place, SessionRow, SessionRows, SessionTable};
 pub use queue::{Queue, Queued};
 pub use roomy::Roomy;

@@ -1,6 +1,16 @@
-use crate::{Entry, Journal, Queue, Queued, SessionTable, machine_laws};
+use crate::{Entry, Journal, Language, Queue, Queued, SessionTable, machine_laws, serving_laws};
 use rm_base::{SessionId, Stamp};
 use std::test::Fail;
+
+/// Each text is BEGIN.
+struct AllBegin;
+
+impl Language for AllBegin {
+    ghost use Rattle.std.specs.Prelude.{◌≡◌, Ok};
+    ghost use Rattle.sql_statements.specs.declared.statements.Stmt.TheVariants as stmt;
+
+    ghost parses = { λ text read. read ≡ Ok stmt.Begin };
+}
 
 #[test]
 fn a_journal_takes_entries_into_its_spare_room(rt: HostRuntime) -> Result<(), Fail> {
@@ -18,7 +28,8 @@ fn a_journal_takes_entries_into_its_spare_room(rt: HostRuntime) -> Result<(), Fa
             [Entry::Snap { .. }, Entry::Settle, Entry::Forget { kept: 7 }]
         )
     );
-    machine_laws();
+    machine_laws::<AllBegin>();
+    serving_laws::<AllBegin>();
     Ok(())
 }
 

@@ -1,0 +1,71 @@
+-- Lines that make turns one after the other are answered in turn.
+use Rattle.std.proofs.Common.{◌≡◌, ℕ, List, [], ◌∷◌, ◌++◌, ◌-◌, subst, refl, sym, ap, ◌∙◌, arith, true, nat_lt}
+use Rattle.sql_exec.specs.Applied.{Database}
+use Rattle.sql_exec.specs.declared.replies.SqlReply.{SqlReply}
+use Rattle.session_state.specs.declared.entries.Entry.{Entry}
+use Rattle.session_state.specs.declared.entries.Entry.TheVariants as entry
+use Rattle.session_state.specs.Laws.{JoinServes, LinesAreAnswered}
+use Rattle.session_state.specs.Machine.{Machine, Parses, after_commits, committed, start}
+use Rattle.session_state.specs.Moves.{joined}
+use Rattle.session_state.specs.Runs.{Serves}
+use Rattle.session_state.specs.Serving.{HaveRoom, IsAnswered, IsServing, ServesInTurn, TableState, Turns, at_rest, replies_in}
+use Rattle.session_state.specs.Steps.{Step}
+use Rattle.session_state.proofs.InTurn.{one_reply}
+use Rattle.session_state.proofs.TurnLaws.{turns}
+
+-- the lines are answered in turn with these replies, and where each has room by every entry that may stand
+record AreServed (parses : Parses) (m : Machine) (lines : List (List ℕ)) (rs : List SqlReply) (t : TableState) : Type 0 where
+  entries : List Entry
+  next : Machine
+  in_turn : ServesInTurn parses 0 m lines entries next
+  told : replies_in entries ≡ rs
+  serves : IsServing next t
+  exact : HaveRoom rs → Serves parses 0 m lines entries next
+
+serve : (parses : Parses) (lines : List (List ℕ)) (rs : List SqlReply) (m : Machine) (old new : TableState) → IsServing m old → Turns parses old lines rs new → AreServed parses m lines rs new
+serve parses [] rs m old new h t =
+    record { entries = []; next = m; in_turn = (refl, refl); told = sym t.0; serves = subst (IsServing m) (sym t.1) h; exact = λ room. (refl, refl) }
+serve parses (line ∷ lines) rs m old new h t =
+    let one : IsAnswered parses m line t.1 t.2 = turns parses m old t.2 line t.0 t.1 h t.4 t.5 in
+    let rest : AreServed parses one.next lines t.3 new = serve parses lines t.3 one.next t.2 new one.serves t.6 in
+    record {
+      entries = one.entries ++ rest.entries;
+      next = rest.next;
+      in_turn = (one.next, one.entries, t.1, rest.entries, one.in_turn, rest.in_turn, refl);
+      told = one_reply parses 0 m line one.entries rest.entries t.1 one.next one.in_turn ∙ (ap (λ l. t.1 ∷ l) rest.told ∙ sym t.7);
+      serves = rest.serves;
+      exact = λ room.
+          let each : HaveRoom (t.1 ∷ t.3) = subst HaveRoom t.7 room in
+          (one.next, one.entries, rest.entries, one.exact each.0, rest.exact each.1, refl);
+    }
+
+no_commits : (base : Database) (first : ℕ) → committed (joined (start 1 base first) 0 0) first ≡ base
+unfolding after_commits
+no_commits base first = ap (after_commits base (λ n. []) first) (let e : first - first ≡ 0 = omega arith in e)
+
+pub joins : (parses : Parses) → JoinServes parses
+joins parses nodes base first name some = (
+  joined (start nodes base first) 0 0,
+  (λ t below. refl, refl, refl),
+  record {
+    up = let e : nat_lt 0 nodes ≡ true = grind arith in e;
+    writer = refl;
+    alone = refl;
+    none_waits = refl;
+    first = omega arith;
+    tables = no_commits base first;
+    session = refl;
+  },
+)
+
+pub lines : (parses : Parses) → LinesAreAnswered parses
+lines parses nodes base first name ls rs new some t =
+    let ready : (m : Machine) × Step parses (start nodes base first) (entry.Join 0 name 0) m × IsServing m (at_rest base) = joins parses nodes base first name some in
+    let all : AreServed parses ready.0 ls rs new = serve parses ls rs ready.0 (at_rest base) new ready.2 t in (
+      entry.Join 0 name 0 ∷ all.entries,
+      record {
+        in_turn = (ready.0, all.next, all.entries, ready.1, all.in_turn, refl);
+        told = all.told;
+        serial = λ room. (ready.0, all.next, all.entries, ready.1, all.exact room, refl);
+      },
+    )
