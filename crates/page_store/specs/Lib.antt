@@ -1,0 +1,5 @@
+pub mod Stored
+pub mod Opening
+pub mod Frames
+pub mod Journal
+pub mod Holding

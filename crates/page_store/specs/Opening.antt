@@ -1,0 +1,30 @@
+-- The group that every log begins with.
+use Rattle.std.specs.Prelude.{ℕ, List, [], ◌∷◌, ◌++◌}
+use Rattle.rm_base.specs.Fields.{field}
+use Rattle.page_image.specs.declared.kind.Kind.TheVariants.{Meta, Slots, Leaf, Undo}
+use Rattle.redo_record.specs.declared.redo.Record.{Record}
+use Rattle.redo_record.specs.declared.redo.Record.TheVariants.{Make, Patch}
+use Rattle.redo_record.specs.declared.redo.Group.{Group}
+use Rattle.page_store.specs.declared.TheConstants.{META_PAGE, SLOTS_PAGE, ROOT_PAGE, UNDO_PAGE, FIRST_FREE, FIELDS_AT, FORMAT, FIRST_NUMBER, NO_STAMP}
+use Rattle.page_store.specs.Stored.{Stored}
+
+-- the meta page's fields: the format, the number of pages, the undo page, the next number of a transaction, the last stamp
+abbrev pub meta_fields : List ℕ
+meta_fields = field 4 FORMAT ++ (field 4 FIRST_FREE ++ (field 4 UNDO_PAGE ++ (field 8 FIRST_NUMBER ++ field 8 NO_STAMP)))
+
+-- the meta page, the slots page, an empty root leaf and an undo page are made
+abbrev pub opening_records : List Record
+opening_records =
+    Make META_PAGE Meta 0
+    ∷ Patch META_PAGE FIELDS_AT meta_fields
+    ∷ Make SLOTS_PAGE Slots 0
+    ∷ Make ROOT_PAGE Leaf 0
+    ∷ Make UNDO_PAGE Undo 0
+    ∷ []
+
+abbrev pub opening : Group
+opening = record { lsn = 1; records = opening_records }
+
+-- a log of the opening alone
+abbrev pub opened : Stored
+opened = record { kept = opening ∷ []; own = [] }

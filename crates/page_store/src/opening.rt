@@ -1,0 +1,71 @@
+ghost use Rattle.std.specs.Prelude.{◌≡◌, ◌≤◌, ◌++◌, IfOk, OnOk};
+ghost use Rattle.rm_base.specs.Fields.{field};
+ghost use Rattle.redo_record.specs.declared.redo.Record.TheVariants.{Make};
+ghost use Rattle.page_store.specs.Opening.{meta_fields, opening_records};
+
+use crate::{
+    FIELDS_AT, FIRST_FREE, FIRST_NUMBER, FORMAT, META_PAGE, NO_STAMP, ROOT_PAGE, SLOTS_PAGE,
+    UNDO_PAGE,
+};
+use page_image::Kind;
+use redo_record::{Record, Records};
+use rm_base::{Bytes, PageId, WantOfMemory, put_u32, put_u64};
+use std::alloc::Global;
+
+fn push_u32(out: &mut Bytes, v: u32) -> Result<(), WantOfMemory>
+    ensures { OnOk result (out.new ≡ out.old ++ field 4 v) }
+{
+    let mut bytes = [0; 4];
+    put_u32(&mut bytes, 0, v);
+    out.append(&bytes)
+}
+
+fn push_u64(out: &mut Bytes, v: u64) -> Result<(), WantOfMemory>
+    ensures { OnOk result (out.new ≡ out.old ++ field 8 v) }
+{
+    let mut bytes = [0; 8];
+    put_u64(&mut bytes, 0, v);
+    out.append(&bytes)
+}
+
+/// The meta page's fields.
+fn meta_fields(alloc: Global) -> Result<Bytes, WantOfMemory>
+    ensures { IfOk result (λ bytes. bytes ≡ meta_fields) }
+{
+    let mut fields = Bytes::new(alloc);
+    push_u32(&mut fields, FORMAT)?;
+    push_u32(&mut fields, FIRST_FREE)?;
+    push_u32(&mut fields, UNDO_PAGE)?;
+    push_u64(&mut fields, FIRST_NUMBER)?;
+    push_u64(&mut fields, NO_STAMP)?;
+    Ok(fields)
+}
+
+/// The record that makes a page that is no inner one.
+fn make(page: u32, kind: Kind) -> Record
+    requires { page ≤ 32767 }
+    ensures { result ≡ Make page kind 0 }
+{
+    Record::Make {
+        page: PageId::new(page).unwrap(),
+        kind,
+        level: 0,
+    }
+}
+
+/// The records of the group that every log begins with.
+pub(crate) fn opening_records(alloc: Global) -> Result<Records, WantOfMemory>
+    ensures { IfOk result (λ records. records ≡ opening_records) }
+{
+    let mut records = Records::new(alloc);
+    records.push(make(META_PAGE, Kind::Meta))?;
+    records.push(Record::Patch {
+        page: PageId::new(META_PAGE).unwrap(),
+        at: FIELDS_AT,
+        bytes: meta_fields(alloc)?,
+    })?;
+    records.push(make(SLOTS_PAGE, Kind::Slots))?;
+    records.push(make(ROOT_PAGE, Kind::Leaf))?;
+    records.push(make(UNDO_PAGE, Kind::Undo))?;
+    Ok(records)
+}
