@@ -1,8 +1,13 @@
-ghost use Rattle.std.specs.Prelude.{◌≡◌, ◌≤◌, ◌<◌, ℕ, List};
-ghost use Rattle.page_image.specs.Image.{unmade};
+ghost use Rattle.std.specs.Prelude.{◌≡◌, ◌≤◌, ◌<◌, ℕ, List, drop};
+ghost use Rattle.rm_base.specs.Fields.{number};
+ghost use Rattle.page_image.specs.declared.kind.Kind.TheVariants.{Meta, Leaf};
+ghost use Rattle.page_image.specs.Image.{unmade, made};
 ghost use Rattle.redo_record.specs.declared.redo.Record.{Record};
 ghost use Rattle.redo_record.specs.Effect.{CountsFrom, after_records, after_groups};
 ghost use Rattle.page_store.specs.Stored.{Stored, groups_of, pages_of, next_lsn, with_group, all_kept, given_back};
+ghost use Rattle.page_store.specs.Opening.{opened};
+
+use crate::{FIRST_FREE, META_PAGE, ROOT_PAGE};
 
 /// The laws of the pages that a log leaves. It does nothing when it is run.
 #[tactic(auto, using(crate::proofs::StoredLaws::page_number, crate::proofs::StoredLaws::after_group, crate::proofs::StoredLaws::after_keep, crate::proofs::StoredLaws::after_give_back, crate::proofs::StoredLaws::page_bound))]
@@ -12,4 +17,13 @@ pub fn page_laws()
     ensures all_kept { (s : Stored) (p : ℕ) → pages_of (all_kept s) p ≡ pages_of s p }
     ensures given_back { (s : Stored) (p : ℕ) → pages_of (given_back s) p ≡ after_groups s.kept (unmade p) }
     ensures bound { (s : Stored) (p : ℕ) → CountsFrom 0 (groups_of s) → (pages_of s p).lsn < next_lsn s }
+{}
+
+/// The pages that the opening leaves. It does nothing when it is run.
+#[tactic(auto, using(crate::proofs::OpeningLaws::opened_meta, crate::proofs::OpeningLaws::opened_count, crate::proofs::OpeningLaws::opened_root, crate::proofs::OpeningLaws::opened_unmade))]
+pub fn opening_laws()
+    ensures meta { (pages_of opened META_PAGE).kind ≡ Meta }
+    ensures count { number 4 (drop 4 (pages_of opened META_PAGE).body) ≡ FIRST_FREE }
+    ensures root { pages_of opened ROOT_PAGE ≡ made (unmade ROOT_PAGE) Leaf 0 1 }
+    ensures others { (p : ℕ) → FIRST_FREE ≤ p → pages_of opened p ≡ unmade p }
 {}

@@ -8,8 +8,10 @@ mod journal;
 mod laws;
 mod opening;
 mod store;
+#[cfg(test)]
+mod tests;
 
-pub use laws::page_laws;
+pub use laws::{opening_laws, page_laws};
 pub use store::PageStore;
 
 /// The page with the number of pages and what else is said of all of them.
