@@ -1,6 +1,6 @@
 -- The plans that change one item carry a tree to the tree of the changed items.
 use Rattle.std.proofs.Common.{◌≡◌, ◌≢◌, ◌<◌, ◌≤◌, ◌+◌, ◌-◌, ℕ, suc, Bool, true, false, cond, eqb, List, [], ◌∷◌, ◌++◌, length, take, drop, get_or, Option, None, refl, sym, ap, subst, ◌∙◌, arith, inl, inr}
-use Rattle.std.specs.Prelude.{nat_eq, insert, remove}
+use Rattle.std.specs.Prelude.{nat_eq, insert, remove, Contains}
 use Rattle.std.specs.List.{AllByRecursion, IsDistinct}
 use Rattle.std.proofs.lemmas.List.{length-append, length-take-le, take_at, drop_at}
 use Rattle.std.proofs.lemmas.List.Edits.{length-remove}
@@ -24,13 +24,14 @@ use Rattle.tree_change.specs.Pages.{HasRows}
 use Rattle.tree_change.specs.Places.{before, behind, lesser, with_key, HasKey, leaf_on}
 use Rattle.tree_change.specs.Room.{size_of, room_for}
 use Rattle.tree_change.specs.Changes.{insert_plan, update_plan, remove_plan}
-use Rattle.tree_change.specs.Effects.{pages_after, TouchesOnly, with_item, without_item, Carries}
+use Rattle.tree_change.specs.Effects.{pages_after, TouchesOnly, with_item, without_item, MakeGroup, StandsOn, Carries}
 use Rattle.tree_change.proofs.PlaceLaws.{absent_before, absent_behind, lesser_absent, lesser_found, found_before, found_behind, with_key_absent, with_key_found, as_many}
 use Rattle.tree_change.proofs.ListLaws.{all_front, all_back}
 use Rattle.tree_change.proofs.SortLaws.{placed}
 use Rattle.tree_change.proofs.EffectLaws.{step_own, NoneFor, untouched, none_apply}
 use Rattle.tree_change.proofs.RowLaws.{key_of_leaf, leaf_with, leaf_without, with_within, without_within}
 use Rattle.tree_change.proofs.WayLaws.{At, at_leaf}
+use Rattle.tree_change.proofs.MemberLaws.{among, member_has}
 use Rattle.tree_change.proofs.NodeLaws.{IsNode, stands_nodes, distinct_front, distinct_back, same_without, leaves_same, linked_same}
 
 -- ---- records that change the items of one page
@@ -102,7 +103,7 @@ pub leaf_changed : (key : List ℕ) (path : List Image) (w : IsWayTo key path) (
     → AllByRecursion (ChangesItems a.page) rs
     → IsLeafPage (after_records lsn rs (w.pages a.page)) a.page a.spot.lo a.spot.hi (change a.spot.mid)
     → change (a.spot.ahead ++ (a.spot.mid ++ a.spot.after)) ≡ a.spot.ahead ++ (change a.spot.mid ++ a.spot.after)
-    → Tree (pages_after lsn rs w.pages) w.root (change w.items)
+    → StandsOn (pages_after lsn rs w.pages) w.root (change w.items) w.tree.nodes w.tree.level
 leaf_changed key path w i a lsn rs change rows leaf within =
     let others : ℕ → Image = pages_after lsn rs w.pages in
     let s = a.spot in
@@ -118,7 +119,7 @@ leaf_changed key path w i a lsn rs change rows leaf within =
     let built : Stands others w.tree.level w.root None None (s.ahead ++ (change s.mid ++ s.after)) (s.left ++ (s.own ++ s.right)) =
     s.rebuild others (change s.mid) s.own left right (leaf, s.part.1) in
     let items : change w.items ≡ s.ahead ++ (change s.mid ++ s.after) = ap change s.items_are ∙ within in
-    record {
+    let tree : Tree others w.root (change w.items) = record {
       level = w.tree.level;
       nodes = w.tree.nodes;
       low_enough = w.tree.low_enough;
@@ -127,7 +128,8 @@ leaf_changed key path w i a lsn rs change rows leaf within =
       linked = subst (Linked others) (sym (leaves_same w.pages others kinds w.tree.nodes))
           (linked_same w.pages others nexts (leaves_of w.pages w.tree.nodes) w.tree.linked);
       apart = w.tree.apart;
-    }
+    } in
+    record { tree = tree; nodes_are = refl; level_is = refl }
 
 -- ---- the page of the change
 
@@ -137,6 +139,17 @@ own_leaf key path w page own e =
     let number : (leaf_on path).page ≡ a.page = ap (λ (im : Image). im.page) a.is ∙ a.spot.part.0.number in
     let same : page ≡ a.page = sym own ∙ sym e ∙ number in
     a.is ∙ ap w.pages (sym same)
+
+-- it is a page of the tree
+pub leaf_within : (key : List ℕ) (path : List Image) (w : IsWayTo key path) (page : ℕ) → Contains ((leaf_on path).page ∷ []) page → Contains w.tree.nodes page
+leaf_within key path w page c =
+    let a = at_leaf key path w in
+    let s = a.spot in
+    let number : (leaf_on path).page ≡ a.page = ap (λ (im : Image). im.page) a.is ∙ s.part.0.number in
+    let nodes_are : w.tree.nodes ≡ s.left ++ (a.page ∷ s.right) = s.nodes_are ∙ ap (λ (l : List ℕ). s.left ++ (l ++ s.right)) s.part.1 in
+    let own : Contains w.tree.nodes (leaf_on path).page =
+    subst (Contains w.tree.nodes) (sym number) (subst (λ (l : List ℕ). Contains l a.page) (sym nodes_are) (among s.left s.right a.page)) in
+    member_has (Contains w.tree.nodes) ((leaf_on path).page ∷ []) page (own, tt) c
 
 leaf_number : (key : List ℕ) (path : List Image) (w : IsWayTo key path) (a : At key path w (length path - 1) 0) → (w.pages a.page).page ≡ a.page
 leaf_number key path w a = a.spot.part.0.number
@@ -151,6 +164,10 @@ size_is item =
 
 some_bytes : (item : LeafItem) → 1 ≤ length (leaf_bytes item)
 some_bytes item = omega arith
+
+-- a leaf item fits a page
+fits_page : (item : LeafItem) → IsLeaf item → (1 ≤ length (leaf_bytes item)) × (length (leaf_bytes item) ≤ PAGE_BYTES - HEADER_BYTES)
+fits_page item is = let size = size_is item in let short = is.short in (some_bytes item, omega (arith, size, short))
 
 -- ---- an item put in
 
@@ -213,7 +230,9 @@ insert_rows im item page e = (e, tt)
 pub insert_carries : (path : List Image) (item : LeafItem) → IsLeaf item → HasRows (leaf_on path) → ¬ HasKey item.key (leaf_on path)
     → size_of item ≤ room_for item.key (leaf_on path) → Carries item.key path (insert_plan (leaf_on path) item) (with_item item.key (leaf_bytes item))
 insert_carries path item is rows no_key room = record {
+  group = record { some = omega arith; most = omega arith; each = (fits_page item is, tt) };
   only = only_page (leaf_on path).page (insert_plan (leaf_on path) item).records (insert_rows (leaf_on path) item (leaf_on path).page refl);
+  within = leaf_within item.key path;
   applies = λ w lsn page own.
       apply_to_all (leaf_on path).page lsn (insert_plan (leaf_on path) item).records (w.pages page) (insert_rows (leaf_on path) item (leaf_on path).page refl)
       (λ e. subst (λ (im : Image). RecordsApply lsn (insert_plan (leaf_on path) item).records im) (own_leaf item.key path w page own e)
@@ -221,7 +240,7 @@ insert_carries path item is rows no_key room = record {
   stands = λ w lsn.
       let a = at_leaf item.key path w in
       let im = w.pages a.page in
-      subst (λ (l : Image). Tree (pages_after lsn (insert_plan l item).records w.pages) w.root (with_item item.key (leaf_bytes item) w.items)) (sym a.is)
+      subst (λ (l : Image). StandsOn (pages_after lsn (insert_plan l item).records w.pages) w.root (with_item item.key (leaf_bytes item) w.items) w.tree.nodes w.tree.level) (sym a.is)
       (leaf_changed item.key path w (length path - 1) a lsn (insert_plan im item).records (with_item item.key (leaf_bytes item))
       (insert_rows im item a.page a.spot.part.0.number)
       (insert_leaf im a.page lsn a.spot.lo a.spot.hi a.spot.mid item a.spot.part.0 is (subst (λ (l : Image). ¬ HasKey item.key l) a.is no_key) (subst HasRows a.is rows) a.spot.low_end a.spot.high_end)
@@ -289,7 +308,9 @@ remove_rows im key page e = (e, tt)
 
 pub remove_carries : (path : List Image) (key : List ℕ) → HasRows (leaf_on path) → HasKey key (leaf_on path) → Carries key path (remove_plan (leaf_on path) key) (without_item key)
 remove_carries path key rows found = record {
+  group = record { some = omega arith; most = omega arith; each = (tt, tt) };
   only = only_page (leaf_on path).page (remove_plan (leaf_on path) key).records (remove_rows (leaf_on path) key (leaf_on path).page refl);
+  within = leaf_within key path;
   applies = λ w lsn page own.
       apply_to_all (leaf_on path).page lsn (remove_plan (leaf_on path) key).records (w.pages page) (remove_rows (leaf_on path) key (leaf_on path).page refl)
       (λ e. subst (λ (im : Image). RecordsApply lsn (remove_plan (leaf_on path) key).records im) (own_leaf key path w page own e)
@@ -297,7 +318,7 @@ remove_carries path key rows found = record {
   stands = λ w lsn.
       let a = at_leaf key path w in
       let im = w.pages a.page in
-      subst (λ (l : Image). Tree (pages_after lsn (remove_plan l key).records w.pages) w.root (without_item key w.items)) (sym a.is)
+      subst (λ (l : Image). StandsOn (pages_after lsn (remove_plan l key).records w.pages) w.root (without_item key w.items) w.tree.nodes w.tree.level) (sym a.is)
       (leaf_changed key path w (length path - 1) a lsn (remove_plan im key).records (without_item key)
       (remove_rows im key a.page a.spot.part.0.number)
       (remove_leaf im a.page lsn a.spot.lo a.spot.hi a.spot.mid key a.spot.part.0 (subst (HasKey key) a.is found) (subst HasRows a.is rows))
@@ -359,7 +380,9 @@ pub update_carries : (path : List Image) (item : LeafItem) → IsLeaf item → H
     → size_of item ≤ room_for item.key (leaf_on path) → used (leaf_on path).items ≤ PAGE_BYTES - HEADER_BYTES
     → Carries item.key path (update_plan (leaf_on path) item) (with_item item.key (leaf_bytes item))
 update_carries path item is rows found room fits = record {
+  group = record { some = omega arith; most = omega arith; each = (tt, (fits_page item is, tt)) };
   only = only_page (leaf_on path).page (update_plan (leaf_on path) item).records (update_rows (leaf_on path) item (leaf_on path).page refl);
+  within = leaf_within item.key path;
   applies = λ w lsn page own.
       apply_to_all (leaf_on path).page lsn (update_plan (leaf_on path) item).records (w.pages page) (update_rows (leaf_on path) item (leaf_on path).page refl)
       (λ e. subst (λ (im : Image). RecordsApply lsn (update_plan (leaf_on path) item).records im) (own_leaf item.key path w page own e)
@@ -367,7 +390,7 @@ update_carries path item is rows found room fits = record {
   stands = λ w lsn.
       let a = at_leaf item.key path w in
       let im = w.pages a.page in
-      subst (λ (l : Image). Tree (pages_after lsn (update_plan l item).records w.pages) w.root (with_item item.key (leaf_bytes item) w.items)) (sym a.is)
+      subst (λ (l : Image). StandsOn (pages_after lsn (update_plan l item).records w.pages) w.root (with_item item.key (leaf_bytes item) w.items) w.tree.nodes w.tree.level) (sym a.is)
       (leaf_changed item.key path w (length path - 1) a lsn (update_plan im item).records (with_item item.key (leaf_bytes item))
       (update_rows im item a.page a.spot.part.0.number)
       (update_leaf im a.page lsn a.spot.lo a.spot.hi a.spot.mid item a.spot.part.0 is (subst (HasKey item.key) a.is found) (subst HasRows a.is rows) a.spot.low_end a.spot.high_end)

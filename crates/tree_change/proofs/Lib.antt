@@ -8,6 +8,8 @@ pub mod EffectLaws
 pub mod RowLaws
 pub mod WayLaws
 pub mod NodeLaws
+pub mod MemberLaws
+pub mod GroupLaws
 pub mod ChangeLaws
 pub mod AnswerLaws
 pub mod CountLaws

@@ -8,11 +8,12 @@ use Rattle.rm_base.proofs.FieldLaws.{length-field}
 use Rattle.page_image.specs.declared.kind.Kind.{Kind}
 use Rattle.page_image.specs.declared.kind.Kind.TheVariants.{Unmade, Meta, Leaf, Inner}
 use Rattle.page_image.specs.declared.TheConstants.{PAGE_BYTES, HEADER_BYTES}
-use Rattle.page_image.specs.Image.{Image, unmade, used, is_slotted, is_inner, LevelFits, made, inserted, cut_from}
+use Rattle.page_image.specs.Image.{Image, unmade, used, is_slotted, is_inner, LevelFits, made, inserted, cut_from, patched}
 use Rattle.redo_record.specs.declared.redo.Record.{Record}
 use Rattle.redo_record.specs.declared.redo.Record.TheVariants.{Make, InsertSlot, Cut, Link}
 use Rattle.redo_record.specs.Effect.{page_of, after_records, RecordsApply}
 use Rattle.redo_record.proofs.Fold.{after_records-append, RecordsApply-append}
+use Rattle.tree_change.specs.declared.counting.TheConstants.{COUNT_AT}
 use Rattle.tree_change.specs.Splits.{count_of, right_half, separator, inserts, linked_to, counts, entry_of, made_halves, made_root, root_split_records}
 use Rattle.tree_change.proofs.ListLaws.{all_join}
 use Rattle.tree_change.proofs.EffectLaws.{NoneFor, none_of, untouched, none_apply, skip, skip_apply, own_apply, other_apply, own_after, other_after}
@@ -270,3 +271,14 @@ apply_root_meta root meta at lsn d e =
     (skip_apply lsn (linked_to root left right) (rest_records root at meta) meta (none_of left m (linked_to root left right) (linked_to_pages root left right) d.bd)
     (skip_apply lsn (made_root root at left right) (counts meta (right + 1) ∷ []) meta (d.ad, (d.ad, (d.ad, (d.ad, tt))))
     (own_apply lsn (counts meta (right + 1)) [] meta refl (can_count meta (right + 1) e) tt)))
+
+pub on_root_meta : (root meta : Image) (at lsn : ℕ) → Apart root.page (count_of meta) (count_of meta + 1) meta.page
+    → after_records lsn (root_split_records root at meta) meta ≡ patched meta COUNT_AT (field 4 (count_of meta + 1 + 1)) lsn
+on_root_meta root meta at lsn d =
+    let left : ℕ = count_of meta in
+    let right : ℕ = count_of meta + 1 in
+    let m : ℕ = meta.page in
+    skip lsn (made_halves root at left right) (linked_to root left right ++ rest_records root at meta) meta (none_halves root meta at m d.bd d.cd)
+    ∙ skip lsn (linked_to root left right) (rest_records root at meta) meta (none_of left m (linked_to root left right) (linked_to_pages root left right) d.bd)
+    ∙ skip lsn (made_root root at left right) (counts meta (right + 1) ∷ []) meta (d.ad, (d.ad, (d.ad, (d.ad, tt))))
+    ∙ own_after lsn (counts meta (right + 1)) [] meta refl

@@ -1,13 +1,15 @@
 -- A root split leaves a tree that stands for the same items.
 use Rattle.std.proofs.Common.{◌≡◌, ◌≢◌, ◌<◌, ◌≤◌, ◌+◌, ◌-◌, ℕ, zero, suc, Bool, true, false, cond, eqb, List, [], ◌∷◌, ◌++◌, length, map, take, slice_get, Option, Some, None, refl, sym, ap, subst, ◌∙◌, arith, inl, inr}
-use Rattle.std.specs.Prelude.{nat_eq}
+use Rattle.std.specs.Prelude.{◌⊎◌, ◌↔◌, nat_eq, Contains}
 use Rattle.std.specs.List.{AllByRecursion, IsDistinct}
 use Rattle.std.proofs.lemmas.List.Elements.{recursion_from_All, All-take}
 use Rattle.std.proofs.lemmas.Bool.{eq-eqb, ne_eqb}
 use Rattle.std.proofs.lemmas.Bool.Decides.{eqb_tells}
 use Rattle.page_image.specs.declared.kind.Kind.TheVariants.{Unmade, Meta, Leaf, Inner}
 use Rattle.page_image.specs.declared.TheConstants.{PAGE_BYTES, HEADER_BYTES}
-use Rattle.page_image.specs.Image.{Image, unmade, used, is_inner, LevelFits}
+use Rattle.rm_base.specs.Fields.{field}
+use Rattle.tree_change.specs.declared.counting.TheConstants.{COUNT_AT}
+use Rattle.page_image.specs.Image.{Image, unmade, used, is_inner, has_body, LevelFits, patched}
 use Rattle.page_image.specs.Rules.{IsImage}
 use Rattle.page_view.specs.Inner.{InnerItem, inner_bytes}
 use Rattle.page_view.specs.Keys.{key_in, keys_of, key_cmp}
@@ -18,7 +20,8 @@ use Rattle.bplus_tree.specs.Tree.{IsLeafPage, IsInnerPage, Stands, Tree, is_leaf
 use Rattle.tree_change.specs.Way.{IsWayTo}
 use Rattle.tree_change.specs.Places.{page_on}
 use Rattle.tree_change.specs.Splits.{IsSplitPlace, IsMeta, count_of, right_half, separator, root_split_records, root_split_plan}
-use Rattle.tree_change.specs.Effects.{pages_after, Keeps}
+use Rattle.tree_change.specs.Pages.{IsTreePage}
+use Rattle.tree_change.specs.Effects.{pages_after, MakeGroup, GrowsOn, Counts, Keeps}
 use Rattle.tree_change.proofs.ListLaws.{all_weaker}
 use Rattle.tree_change.proofs.SortLaws.{all_filter}
 use Rattle.tree_change.proofs.EffectLaws.{untouched, none_apply}
@@ -32,8 +35,10 @@ use Rattle.tree_change.proofs.SplitLaws.{Halves, ascend_at}
 use Rattle.tree_change.proofs.SplitEffects.{Apart, IsMade}
 use Rattle.tree_change.proofs.SplitTree.{unmade_apart, meta_apart, Halved, halves, tail_same, empty_parts, kept_leaf, dropped_leaf, leaves-append}
 use Rattle.tree_change.proofs.SplitKeeps.{right_fits, slotted_node}
+use Rattle.tree_change.proofs.MemberLaws.{here, there, two_more, member_has}
+use Rattle.tree_change.proofs.GroupLaws.{root_group, counted}
 use Rattle.tree_change.proofs.LinkLaws.{distinct_more, filter_same, SameNext, linked_on_same}
-use Rattle.tree_change.proofs.RootEffects.{none_root, left_next, on_left, on_right, new_root, on_root, apply_left, apply_right, apply_root, apply_root_meta}
+use Rattle.tree_change.proofs.RootEffects.{none_root, left_next, on_left, on_right, new_root, on_root, on_root_meta, apply_left, apply_right, apply_root, apply_root_meta}
 use Rattle.tree_change.proofs.WayLaws.{at}
 
 pub record RootSetting (key : List ℕ) (path : List Image) (w : IsWayTo key path) (meta : Image) (place : ℕ) : Type 0 where
@@ -283,7 +288,7 @@ root_linked pages others (suc m) root left right place items nodes deep ol or h 
     (subst (λ (n : List ℕ). Linked pages (leaves_of pages n)) (are ∙ ap (λ (d : List ℕ). root ∷ d) deep_is) linked)
 
 pub root_tree : (key : List ℕ) (path : List Image) (w : IsWayTo key path) (meta : Image) (place lsn : ℕ) → RootSetting key path w meta place
-    → Tree (pages_after lsn (root_rs key path w meta place) w.pages) w.root w.items
+    → GrowsOn (pages_after lsn (root_rs key path w meta place) w.pages) w.root w.items w.tree.nodes (count_of meta ∷ (count_of meta + 1) ∷ [])
 root_tree key path w meta place lsn s =
     let others : ℕ → Image = pages_after lsn (root_rs key path w meta place) w.pages in
     let im : Image = w.pages w.root in
@@ -308,7 +313,7 @@ root_tree key path w meta place lsn s =
     let d1 : IsDistinct nat_eq (w.root ∷ (left ∷ (ol ++ or'))) = distinct_more (w.root ∷ []) (ol ++ or') left d0 no_left in
     let ne : left ≢ right = λ q. omega (arith, q) in
     let d2 : IsDistinct nat_eq ((w.root ∷ (left ∷ ol)) ++ (right ∷ or')) = distinct_more (w.root ∷ (left ∷ ol)) or' right d1 (no_right.0, (ne, no_right.1)) in
-    record {
+    let tree : Tree others w.root w.items = record {
       level = suc w.tree.level;
       nodes = w.root ∷ (left ∷ (ol ++ (right ∷ or')));
       low_enough = omega (arith, level, low);
@@ -316,6 +321,13 @@ root_tree key path w meta place lsn s =
       linked = root_linked w.pages others w.tree.level w.root left right place w.items w.tree.nodes b.deep ol or' w.tree.stands b.nodes_are deep_is w.tree.linked
           (root_same key path w meta place lsn s b.deep b.deep_nodes b.deep_root) (ap (λ (o : Image). o.kind) e) (root_pages key path w meta place lsn s) (omega arith);
       apart = d2;
+    } in
+    let before : w.tree.nodes ≡ w.root ∷ (ol ++ or') = b.nodes_are ∙ ap (λ (n : List ℕ). w.root ∷ n) deep_is in
+    record {
+      tree = tree;
+      nodes_are = λ q.
+          subst (λ (n : List ℕ). Contains (w.root ∷ (left ∷ (ol ++ (right ∷ or')))) q ↔ (Contains n q ⊎ Contains (left ∷ right ∷ []) q)) (sym before)
+          (two_more (w.root ∷ []) ol or' left right q);
     }
 
 -- ---- the records apply
@@ -362,19 +374,57 @@ root_is key path w =
     let a = at key path w 0 w.tree.level (omega arith) in
     a.is ∙ ap w.pages (sym a.down.1)
 
-pub root_keeps : (key : List ℕ) (path : List Image) (place : ℕ) (meta : Image) → IsSplitPlace (page_on path 0).items place
-    → IsImage (page_on path 0) → (page_on path 0).level < 8 → IsMeta meta → count_of meta + 1 ≤ 32767
+pub root_keeps : (key : List ℕ) (path : List Image) (place : ℕ) (meta : Image) → IsSplitPlace (page_on path 0).items place → IsTreePage (page_on path 0)
+    → IsImage (page_on path 0) → (page_on path 0).level < 8 → IsMeta meta → IsImage meta → count_of meta + 1 ≤ 32767
     → Keeps key path meta (root_split_plan (page_on path 0) place meta)
-root_keeps key path place meta is_place image low is_meta bound = record {
-  only = λ lsn im ne. untouched lsn (root_split_records (page_on path 0) place meta) im (none_root (page_on path 0) meta place im.page ne.0 ne.1.0 ne.1.1.0 ne.1.1.1.0);
-  applies = λ w fresh lsn page number.
-      subst (λ (r : List Record). RecordsApply lsn r (w.pages page)) (sym (same w))
-      (root_applies key path w meta place lsn (setting w fresh.meta_is fresh.unmade.0 fresh.unmade.1.0) page number);
-  stands = λ w fresh lsn.
-      subst (λ (r : List Record). Tree (pages_after lsn r w.pages) w.root w.items) (sym (same w))
-      (root_tree key path w meta place lsn (setting w fresh.meta_is fresh.unmade.0 fresh.unmade.1.0));
-}
+root_keeps key path place meta is_place page_is image low is_meta meta_image bound =
+    let left : ℕ = count_of meta in
+    let right : ℕ = count_of meta + 1 in
+    record {
+      group = group;
+      only = λ lsn im ne. untouched lsn (root_split_records (page_on path 0) place meta) im (none_root (page_on path 0) meta place im.page ne.0 ne.1.0 ne.1.1.0 ne.1.1.1.0);
+      within = within;
+      made = record { next = ((omega arith, omega arith), ((omega arith, omega arith), tt)); bound = omega arith };
+      applies = λ w fresh lsn page number.
+          subst (λ (r : List Record). RecordsApply lsn r (w.pages page)) (sym (same w))
+          (root_applies key path w meta place lsn (setting w fresh.meta_is fresh.unmade.0 fresh.unmade.1.0) page number);
+      stands = λ w fresh lsn.
+          subst (λ (r : List Record). GrowsOn (pages_after lsn r w.pages) w.root w.items w.tree.nodes (left ∷ right ∷ [])) (sym (same w))
+          (root_tree key path w meta place lsn (setting w fresh.meta_is fresh.unmade.0 fresh.unmade.1.0));
+      counts = λ w fresh lsn.
+          let s = setting w fresh.meta_is fresh.unmade.0 fresh.unmade.1.0 in
+          let after : pages_after lsn (root_rs key path w meta place) w.pages meta.page ≡ patched meta COUNT_AT (field 4 (right + 1)) lsn =
+          ap (after_records lsn (root_rs key path w meta place)) fresh.meta_is ∙ on_root_meta (w.pages w.root) meta place lsn (root_apart key path w meta place s) in
+          let whole = meta_image.whole_body (ap has_body is_meta.kind) in
+          let done : Counts (patched meta COUNT_AT (field 4 (right + 1)) lsn) (right + 1) = counted meta (right + 1) lsn is_meta whole (omega arith) in
+          let sum : right + 1 ≡ count_of meta + 2 = omega arith in
+          subst (λ (r : List Record). Counts (pages_after lsn r w.pages meta.page) (count_of meta + 2)) (sym (same w))
+          (subst (λ (o : Image). Counts o (count_of meta + 2)) (sym after) (subst (Counts (patched meta COUNT_AT (field 4 (right + 1)) lsn)) sum done));
+    }
   where
+    root : Image
+    root = page_on path 0
+
+    group : MakeGroup (root_split_records (page_on path 0) place meta)
+    group =
+        let front : AllByRecursion (λ x. 1 ≤ length x) (take place root.items) =
+        recursion_from_All (λ x. 1 ≤ length x) (take place root.items) (All-take (λ x. 1 ≤ length x) place root.items image.some_bytes) in
+        let room : used (take place root.items) ≤ PAGE_BYTES - HEADER_BYTES = (let u = used_halves place root.items in let r = image.room in omega (arith, u, r)) in
+        let back = right_fits root place image in
+        root_group root meta place page_is is_place.within image.level_fits low front room back.0 back.1 bound
+
+    within : (w : IsWayTo key path) (page : ℕ) → Contains (root_split_plan (page_on path 0) place meta).pages page
+        → Contains w.tree.nodes page ⊎ (Contains (root_split_plan (page_on path 0) place meta).made page ⊎ (page ≡ meta.page))
+    within w page c =
+        let b = below key path w in
+        let left : ℕ = count_of meta in
+        let right : ℕ = count_of meta + 1 in
+        let number : root.page ≡ w.root = ap (λ (o : Image). o.page) (root_is key path w) ∙ b.node.number in
+        let own : Contains w.tree.nodes root.page =
+        subst (Contains w.tree.nodes) (sym number) (subst (λ (n : List ℕ). Contains n w.root) (sym b.nodes_are) (here w.root b.deep)) in
+        member_has (λ q. Contains w.tree.nodes q ⊎ (Contains (left ∷ right ∷ []) q ⊎ (q ≡ meta.page))) (root.page ∷ left ∷ right ∷ meta.page ∷ []) page
+        (inl own, (inr (inl (here left (right ∷ []))), (inr (inl (there left right (right ∷ []) (here right []))), (inr (inr refl), tt)))) c
+
     same : (w : IsWayTo key path) → root_split_records (page_on path 0) place meta ≡ root_rs key path w meta place
     same w = ap (λ (o : Image). root_split_records o place meta) (root_is key path w)
 

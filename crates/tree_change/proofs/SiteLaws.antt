@@ -75,7 +75,7 @@ pub own_first : (pages : ℕ → Image) (level page : ℕ) (low high : Option (L
 own_first pages zero page low high items nodes h = ([], h.1)
 own_first pages (suc level) page low high items nodes h = (h.1, h.4)
 
-nodes_regroup : (left : List ℕ) (p : ℕ) (fl : List ℕ) (c : ℕ) (deep fr right : List ℕ)
+pub nodes_regroup : (left : List ℕ) (p : ℕ) (fl : List ℕ) (c : ℕ) (deep fr right : List ℕ)
     → left ++ ((p ∷ (fl ++ ((c ∷ deep) ++ fr))) ++ right) ≡ (left ++ (p ∷ fl)) ++ (c ∷ ((deep ++ fr) ++ right))
 nodes_regroup left p fl c deep fr right = simp append_assoc
 

@@ -7,7 +7,7 @@ use Rattle.rm_base.proofs.FieldLaws.{length-field}
 use Rattle.page_image.specs.declared.kind.Kind.{Kind}
 use Rattle.page_image.specs.declared.kind.Kind.TheVariants.{Unmade, Meta}
 use Rattle.page_image.specs.declared.TheConstants.{PAGE_BYTES, HEADER_BYTES}
-use Rattle.page_image.specs.Image.{Image, unmade, used, is_slotted, is_inner, has_body, LevelFits, made, CanInsert, inserted, cut_from, linked, CanPatch}
+use Rattle.page_image.specs.Image.{Image, unmade, used, is_slotted, is_inner, has_body, LevelFits, made, CanInsert, inserted, cut_from, linked, CanPatch, patched}
 use Rattle.redo_record.specs.declared.redo.Record.{Record}
 use Rattle.redo_record.specs.declared.redo.Record.TheVariants.{Make, InsertSlot, Cut, Link}
 use Rattle.redo_record.specs.Effect.{page_of, after_records, RecordsApply}
@@ -264,6 +264,19 @@ apply_meta key parent page meta at lsn d e =
     (other_apply lsn (Cut page.page at) (InsertSlot parent.page n entry ∷ counts meta (new + 1) ∷ []) meta d.bd
     (other_apply lsn (InsertSlot parent.page n entry) (counts meta (new + 1) ∷ []) meta d.ad
     (own_apply lsn (counts meta (new + 1)) [] meta refl (can_count meta (new + 1) e) tt))))
+
+pub on_meta : (key : List ℕ) (parent page meta : Image) (at lsn : ℕ) → Apart parent.page page.page (count_of meta) meta.page
+    → after_records lsn (split_records key parent page at meta) meta ≡ patched meta COUNT_AT (field 4 (count_of meta + 1)) lsn
+on_meta key parent page meta at lsn d =
+    let new : ℕ = count_of meta in
+    let n : ℕ = not_greater key parent.items in
+    let entry : List ℕ = entry_of (separator page at) new in
+    let last : List Record = last_records key parent page at meta in
+    skip lsn (made_right page at new) (linked_to page page.page new ++ last) meta (none_made page meta at new d.cd)
+    ∙ skip lsn (linked_to page page.page new) last meta (none_linked page meta page.page new d.bd)
+    ∙ other_after lsn (Cut page.page at) (InsertSlot parent.page n entry ∷ counts meta (new + 1) ∷ []) meta d.bd
+    ∙ other_after lsn (InsertSlot parent.page n entry) (counts meta (new + 1) ∷ []) meta d.ad
+    ∙ own_after lsn (counts meta (new + 1)) [] meta refl
 
 -- pages that are none of the four
 pub none_else : (key : List ℕ) (parent page meta : Image) (at other : ℕ) → parent.page ≢ other → page.page ≢ other → count_of meta ≢ other → meta.page ≢ other

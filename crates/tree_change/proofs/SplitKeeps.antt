@@ -1,6 +1,6 @@
 -- The records of a split apply to each page.
-use Rattle.std.proofs.Common.{◌≡◌, ◌≢◌, ◌<◌, ◌≤◌, ◌+◌, ◌-◌, ℕ, suc, Bool, true, false, cond, List, [], ◌∷◌, ◌++◌, length, drop, get_or, sym, ap, subst, ◌∙◌, arith, inl, inr}
-use Rattle.std.specs.Prelude.{◌⊎◌}
+use Rattle.std.proofs.Common.{◌≡◌, ◌≢◌, ◌<◌, ◌≤◌, ◌+◌, ◌-◌, ℕ, suc, Bool, true, false, cond, List, [], ◌∷◌, ◌++◌, length, drop, get_or, refl, sym, ap, subst, ◌∙◌, arith, inl, inr}
+use Rattle.std.specs.Prelude.{◌⊎◌, Contains}
 use Rattle.std.specs.List.{AllByRecursion}
 use Rattle.std.proofs.lemmas.List.{length-map, length-append, length-drop}
 use Rattle.std.proofs.lemmas.List.Elements.{recursion_from_All, All-drop}
@@ -9,22 +9,25 @@ use Rattle.rm_base.specs.Fields.{field}
 use Rattle.rm_base.proofs.FieldLaws.{length-field}
 use Rattle.page_image.specs.declared.kind.Kind.TheVariants.{Unmade, Leaf, Inner}
 use Rattle.page_image.specs.declared.TheConstants.{PAGE_BYTES, HEADER_BYTES}
-use Rattle.page_image.specs.Image.{Image, unmade, used, free_of, is_slotted, is_inner, CanInsert}
+use Rattle.page_image.specs.Image.{Image, unmade, used, free_of, is_slotted, is_inner, has_body, CanInsert, patched}
 use Rattle.page_image.specs.Rules.{IsImage}
 use Rattle.page_view.specs.Inner.{inner_bytes}
 use Rattle.redo_record.specs.declared.redo.Record.{Record}
-use Rattle.redo_record.specs.Effect.{RecordsApply}
-use Rattle.bplus_tree.specs.Tree.{Tree}
+use Rattle.redo_record.specs.Effect.{after_records, RecordsApply}
 use Rattle.tree_change.specs.Way.{IsWayTo}
 use Rattle.tree_change.specs.Places.{page_on, not_greater}
 use Rattle.tree_change.specs.Splits.{IsSplitPlace, IsMeta, count_of, right_half, first_without_key, without_key, separator, entry_of, split_records, split_plan}
-use Rattle.tree_change.specs.Effects.{pages_after, Keeps}
+use Rattle.tree_change.specs.declared.counting.TheConstants.{COUNT_AT}
+use Rattle.tree_change.specs.Pages.{IsTreePage}
+use Rattle.tree_change.specs.Effects.{pages_after, MakeGroup, GrowsOn, Counts, Keeps}
 use Rattle.tree_change.proofs.EffectLaws.{untouched, none_apply}
 use Rattle.tree_change.proofs.MoveLaws.{used-cons, used_halves}
+use Rattle.tree_change.proofs.MemberLaws.{here, among, member_has}
+use Rattle.tree_change.proofs.GroupLaws.{split_group, counted}
 use Rattle.tree_change.proofs.NodeLaws.{IsNode}
 use Rattle.tree_change.proofs.WayLaws.{path_length}
-use Rattle.tree_change.proofs.SiteLaws.{site, around}
-use Rattle.tree_change.proofs.SplitEffects.{apply_new, apply_parent, apply_page, apply_meta, none_else}
+use Rattle.tree_change.proofs.SiteLaws.{site, around, nodes_regroup}
+use Rattle.tree_change.proofs.SplitEffects.{apply_new, apply_parent, apply_page, apply_meta, on_meta, none_else}
 use Rattle.tree_change.proofs.SplitTree.{Setting, rs_of, four_apart, grown, split_tree}
 
 -- ---- the right half fits a page
@@ -121,29 +124,71 @@ split_applies key path w i l meta at lsn s image room page number =
 -- ---- and so a split keeps the items
 
 pub split_keeps : (key : List ℕ) (path : List Image) (i at : ℕ) (meta : Image) → i + 1 < length path → IsSplitPlace (page_on path (i + 1)).items at
-    → IsImage (page_on path (i + 1)) → 71 ≤ free_of (page_on path i) → IsMeta meta → count_of meta ≤ 32767
+    → IsTreePage (page_on path (i + 1)) → IsImage (page_on path (i + 1)) → 71 ≤ free_of (page_on path i) → IsMeta meta → IsImage meta → count_of meta ≤ 32767
     → Keeps key path meta (split_plan key (page_on path i) (page_on path (i + 1)) at meta)
-split_keeps key path i at meta inside place image room is_meta bound =
+split_keeps key path i at meta inside place page_is image room is_meta meta_image bound =
     let rs : List Record = split_records key (page_on path i) (page_on path (i + 1)) at meta in
+    let new : ℕ = count_of meta in
     record {
+      group = group;
       only = λ lsn im ne. untouched lsn rs im (none_else key (page_on path i) (page_on path (i + 1)) meta at im.page ne.0 ne.1.0 ne.1.1.0 ne.1.1.1.0);
+      within = within;
+      made = record { next = ((omega arith, omega arith), tt); bound = omega arith };
       applies = λ w fresh lsn page number.
-          let l : ℕ = w.tree.level - (i + 1) in
-          let s = setting w l (let long = path_length key path w in omega (arith, long)) fresh.meta_is fresh.unmade.0 in
-          subst (λ (r : List Record). RecordsApply lsn r (w.pages page)) (sym (same w l s))
-          (split_applies key path w i l meta at lsn s (subst IsImage s.site.page_is image) (subst (λ (o : Image). 71 ≤ free_of o) s.site.parent_is room) page number);
+          let s = setting w fresh.meta_is fresh.unmade.0 in
+          subst (λ (r : List Record). RecordsApply lsn r (w.pages page)) (sym (same w s))
+          (split_applies key path w i (below w) meta at lsn s (subst IsImage s.site.page_is image) (subst (λ (o : Image). 71 ≤ free_of o) s.site.parent_is room) page number);
       stands = λ w fresh lsn.
-          let l : ℕ = w.tree.level - (i + 1) in
-          let s = setting w l (let long = path_length key path w in omega (arith, long)) fresh.meta_is fresh.unmade.0 in
-          subst (λ (r : List Record). Tree (pages_after lsn r w.pages) w.root w.items) (sym (same w l s)) (split_tree key path w i l meta at lsn s);
+          let s = setting w fresh.meta_is fresh.unmade.0 in
+          subst (λ (r : List Record). GrowsOn (pages_after lsn r w.pages) w.root w.items w.tree.nodes (new ∷ [])) (sym (same w s)) (split_tree key path w i (below w) meta at lsn s);
+      counts = λ w fresh lsn.
+          let s = setting w fresh.meta_is fresh.unmade.0 in
+          let after : pages_after lsn (rs_of key path w i (below w) meta at s) w.pages meta.page ≡ patched meta COUNT_AT (field 4 (new + 1)) lsn =
+          ap (after_records lsn (rs_of key path w i (below w) meta at s)) fresh.meta_is
+          ∙ on_meta key (w.pages s.site.parent) (w.pages s.site.page) meta at lsn (four_apart key path w i (below w) meta at s) in
+          let whole = meta_image.whole_body (ap has_body is_meta.kind) in
+          let done : Counts (patched meta COUNT_AT (field 4 (new + 1)) lsn) (new + 1) = counted meta (new + 1) lsn is_meta whole (omega arith) in
+          subst (λ (r : List Record). Counts (pages_after lsn r w.pages meta.page) (new + 1)) (sym (same w s))
+          (subst (λ (o : Image). Counts o (new + 1)) (sym after) done);
     }
   where
-    setting : (w : IsWayTo key path) (l : ℕ) → i + suc l ≡ w.tree.level → w.pages meta.page ≡ meta → w.pages (count_of meta) ≡ unmade (count_of meta) → Setting key path w i l meta at
-    setting w l e m n =
-        let st = site key path w i l e in
+    group : MakeGroup (split_records key (page_on path i) (page_on path (i + 1)) at meta)
+    group =
+        let right = right_fits (page_on path (i + 1)) at image in
+        split_group key (page_on path i) (page_on path (i + 1)) meta at page_is place.within image.level_fits right.0 right.1 image.next_bound bound
+
+    below : IsWayTo key path → ℕ
+    below w = w.tree.level - (i + 1)
+
+    deep : (w : IsWayTo key path) → i + suc (below w) ≡ w.tree.level
+    deep w = let long = path_length key path w in omega (arith, long)
+
+    within : (w : IsWayTo key path) (page : ℕ) → Contains (split_plan key (page_on path i) (page_on path (i + 1)) at meta).pages page
+        → Contains w.tree.nodes page ⊎ (Contains (split_plan key (page_on path i) (page_on path (i + 1)) at meta).made page ⊎ (page ≡ meta.page))
+    within w page c =
+        let st = site key path w i (below w) (deep w) in
+        let ar = around key path w i (below w) st in
+        let new : ℕ = count_of meta in
+        let parent_number : (page_on path i).page ≡ st.parent = ap (λ (o : Image). o.page) st.parent_is ∙ ar.parent_node.number in
+        let page_number : (page_on path (i + 1)).page ≡ st.page = ap (λ (o : Image). o.page) st.page_is ∙ ar.page_node.number in
+        let parent_in : Contains w.tree.nodes st.parent =
+        subst (λ (n : List ℕ). Contains n st.parent) (sym ar.nodes_are)
+        (among st.spot.left ((st.parts.left ++ ((st.page ∷ ar.deep) ++ st.parts.right)) ++ st.spot.right) st.parent) in
+        let page_in : Contains w.tree.nodes st.page =
+        subst (λ (n : List ℕ). Contains n st.page) (sym (ar.nodes_are ∙ nodes_regroup st.spot.left st.parent st.parts.left st.page ar.deep st.parts.right st.spot.right))
+        (among (st.spot.left ++ (st.parent ∷ st.parts.left)) ((ar.deep ++ st.parts.right) ++ st.spot.right) st.page) in
+        member_has (λ q. Contains w.tree.nodes q ⊎ (Contains (new ∷ []) q ⊎ (q ≡ meta.page)))
+        ((page_on path i).page ∷ (page_on path (i + 1)).page ∷ new ∷ meta.page ∷ []) page (
+          inl (subst (Contains w.tree.nodes) (sym parent_number) parent_in),
+          (inl (subst (Contains w.tree.nodes) (sym page_number) page_in), (inr (inl (here new [])), (inr (inr refl), tt))),
+        ) c
+
+    setting : (w : IsWayTo key path) → w.pages meta.page ≡ meta → w.pages (count_of meta) ≡ unmade (count_of meta) → Setting key path w i (below w) meta at
+    setting w m n =
+        let st = site key path w i (below w) (deep w) in
         record {
           site = st;
-          around = around key path w i l st;
+          around = around key path w i (below w) st;
           place = subst (λ (o : Image). IsSplitPlace o.items at) st.page_is place;
           is_meta = is_meta;
           meta_there = m;
@@ -151,7 +196,7 @@ split_keeps key path i at meta inside place image room is_meta bound =
           new_bound = bound;
         }
 
-    same : (w : IsWayTo key path) (l : ℕ) (s : Setting key path w i l meta at) → split_records key (page_on path i) (page_on path (i + 1)) at meta ≡ rs_of key path w i l meta at s
-    same w l s =
+    same : (w : IsWayTo key path) (s : Setting key path w i (below w) meta at) → split_records key (page_on path i) (page_on path (i + 1)) at meta ≡ rs_of key path w i (below w) meta at s
+    same w s =
         ap (λ (o : Image). split_records key o (page_on path (i + 1)) at meta) s.site.parent_is
         ∙ ap (λ (o : Image). split_records key (w.pages s.site.parent) o at meta) s.site.page_is

@@ -1,6 +1,6 @@
 -- A split below the root leaves a tree that stands for the same items.
 use Rattle.std.proofs.Common.{◌≡◌, ◌≢◌, ◌<◌, ◌≤◌, ◌+◌, ℕ, zero, suc, Bool, true, false, cond, List, [], ◌∷◌, ◌++◌, length, map, take, drop, get_or, Option, None, refl, sym, ap, subst, ◌∙◌, arith, inl, inr}
-use Rattle.std.specs.Prelude.{◌⊎◌, nat_eq}
+use Rattle.std.specs.Prelude.{◌⊎◌, ◌↔◌, nat_eq, Contains}
 use Rattle.std.specs.List.{AllByRecursion, IsDistinct}
 use Rattle.std.proofs.lemmas.List.{take-append-drop, drop_more, append_assoc, map-append, length-map, take_at, drop_at, get_or_at}
 use Rattle.std.proofs.lemmas.List.Elements.{filter-append}
@@ -16,7 +16,7 @@ use Rattle.bplus_tree.specs.Tree.{IsLeafPage, IsInnerPage, Parts, Stands, Tree, 
 use Rattle.tree_change.specs.Way.{IsWayTo}
 use Rattle.tree_change.specs.Places.{not_greater}
 use Rattle.tree_change.specs.Splits.{IsSplitPlace, IsMeta, count_of, right_half, first_without_key, separator, entry_of, split_records}
-use Rattle.tree_change.specs.Effects.{pages_after}
+use Rattle.tree_change.specs.Effects.{pages_after, GrowsOn}
 use Rattle.tree_change.proofs.ListLaws.{all_front, all_back, all_join, all_weaker}
 use Rattle.tree_change.proofs.SortLaws.{all_filter}
 use Rattle.tree_change.proofs.EffectLaws.{untouched}
@@ -27,6 +27,7 @@ use Rattle.tree_change.proofs.SplitLaws.{Halves, leaf_parts, inner_parts, withou
 use Rattle.tree_change.proofs.ParentLaws.{entry_joins, parent_stands}
 use Rattle.tree_change.proofs.SplitEffects.{Apart, on_new, on_parent, on_page, linked_page, none_else}
 use Rattle.tree_change.proofs.SiteLaws.{Site, Around}
+use Rattle.tree_change.proofs.MemberLaws.{one_more}
 use Rattle.tree_change.proofs.LinkLaws.{distinct_more, filter_same, SameNext, linked_on_same, linked_more}
 
 -- ---- pages of other kinds are no pages of a tree
@@ -538,7 +539,7 @@ linked_after key path w i (suc m) meta at lsn s g =
     (nodes_before key path w i (suc m) meta at lsn s g)
 
 pub split_tree : (key : List ℕ) (path : List Image) (w : IsWayTo key path) (i l : ℕ) (meta : Image) (at lsn : ℕ) (s : Setting key path w i l meta at)
-    → Tree (pages_after lsn (rs_of key path w i l meta at s) w.pages) w.root w.items
+    → GrowsOn (pages_after lsn (rs_of key path w i l meta at s) w.pages) w.root w.items w.tree.nodes (count_of meta ∷ [])
 split_tree key path w i l meta at lsn s =
     let st = s.site in
     let g = grown key path w i l meta at lsn s in
@@ -548,11 +549,15 @@ split_tree key path w i l meta at lsn s =
     let all : AllByRecursion (IsNode w.pages) (xs ++ ys) = subst (AllByRecursion (IsNode w.pages)) before s.around.all in
     let new : Without (count_of meta) (xs ++ ys) =
     all_weaker (IsNode w.pages) (λ q. q ≢ count_of meta) (λ q n e. unmade_apart w.pages (count_of meta) q (kind_of_new key path w i l meta at s) n (sym e)) (xs ++ ys) all in
-    record {
+    let tree : Tree (pages_after lsn (rs_of key path w i l meta at s) w.pages) w.root w.items = record {
       level = w.tree.level;
       nodes = xs ++ (count_of meta ∷ ys);
       low_enough = w.tree.low_enough;
       stands = g.stands;
       linked = linked_after key path w i l meta at lsn s g;
       apart = distinct_more xs ys (count_of meta) (subst (IsDistinct nat_eq) before w.tree.apart) new;
+    } in
+    record {
+      tree = tree;
+      nodes_are = λ q. subst (λ (n : List ℕ). Contains (xs ++ (count_of meta ∷ ys)) q ↔ (Contains n q ⊎ Contains (count_of meta ∷ []) q)) (sym before) (one_more xs ys (count_of meta) q);
     }

@@ -139,5 +139,6 @@ pub fn plan_root_split(
 {
     let root = root_of(path);
     keeps_rules(root);
+    keeps_rules(meta);
     split_root(alloc, root, meta, item)
 }

@@ -176,5 +176,6 @@ pub fn plan_split(
     let pages = path.as_slice();
     let above = above_full(pages, item);
     keeps_rules(&pages[above + 1]);
+    keeps_rules(meta);
     split_below(alloc, &pages[above], &pages[above + 1], meta, item)
 }

@@ -28,4 +28,5 @@ returns-clause-keeps c =
     (λ bound at place.
     subst (λ (o : Image). Keeps c.args.item.now.key c.args.path.now c.args.meta.now (root_split_plan o at c.args.meta.now)) (sym e)
     (root_keeps c.args.item.now.key c.args.path.now at c.args.meta.now (subst (λ (o : Image). IsSplitPlace o.items at) e place)
-    (subst IsImage e c.keeps_rules.ensures) c.requires.low c.requires.meta bound))
+    (tree_pages c.args.item.now.key c.args.path.now c.requires.way 0 (some_pages c.args.item.now.key c.args.path.now c.requires.way))
+    (subst IsImage e c.keeps_rules.ensures) c.requires.low c.requires.meta c.keeps_rules-2.ensures bound))

@@ -55,6 +55,7 @@ returns-clause-keeps c =
     let r2 : c.index-pages-above-2.result ≡ page_on path above = read pages path above c.index-pages-above-2.result e (omega arith) c.index-pages-above-2.is in
     let r3 : c.index-pages-above-3.result ≡ page_on path (above + 1) = read pages path (above + 1) c.index-pages-above-3.result e within c.index-pages-above-3.is in
     let image : IsImage (page_on path (above + 1)) = subst IsImage r1 c.keeps_rules.ensures in
+    let page_is : IsTreePage (page_on path (above + 1)) = tree_pages key path c.requires.way (above + 1) (omega (arith, long, within)) in
     let parent : HasChildren (page_on path above) = inner_children key path c.requires.way above (omega (arith, long, within)) in
     let room : 71 ≤ free_of (page_on path above) = inner_room c.args.item.now (page_on path above) parent.kind (full.others above (omega arith)) in
     when_placed (count_of c.args.meta.now ≤ 32767) (λ at. IsSplitPlace c.index-pages-above-3.result.items at)
@@ -64,4 +65,4 @@ returns-clause-keeps c =
     (λ bound at place.
     subst (λ (o : Image). Keeps c.args.item.now.key c.args.path.now c.args.meta.now (split_plan c.args.item.now.key o c.index-pages-above-3.result at c.args.meta.now)) (sym r2)
     (subst (λ (o : Image). Keeps c.args.item.now.key c.args.path.now c.args.meta.now (split_plan c.args.item.now.key (page_on path above) o at c.args.meta.now)) (sym r3)
-    (split_keeps key path above at c.args.meta.now (omega (arith, long, within)) (subst (λ (o : Image). IsSplitPlace o.items at) r3 place) image room c.requires.meta bound)))
+    (split_keeps key path above at c.args.meta.now (omega (arith, long, within)) (subst (λ (o : Image). IsSplitPlace o.items at) r3 place) page_is image room c.requires.meta c.keeps_rules-2.ensures bound)))
