@@ -19,3 +19,8 @@ pub when_placed : {A E F : Type 0} (Room : Type 0) (Place : ℕ → Type 0) (q :
 when_placed Room Place q P (Ok (Ok plan)) room is then = subst P (sym is.2) (then (room.0 refl) is.0 is.1)
 when_placed Room Place q P (Ok (Err e)) room is then = tt
 when_placed Room Place q P (Err e) room is then = tt
+
+-- what holds of the one value that there can be
+pub if_ok_is : {A E : Type 0} (P : A → Type 0) (q : A) (r : Result A E) → IfOk r (λ x. x ≡ q) → P q → IfOk r P
+if_ok_is P q (Ok x) is h = subst P (sym is) h
+if_ok_is P q (Err e) is h = tt

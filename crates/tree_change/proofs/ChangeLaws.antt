@@ -2,7 +2,7 @@
 use Rattle.std.proofs.Common.{◌≡◌, ◌≢◌, ◌<◌, ◌≤◌, ◌+◌, ◌-◌, ℕ, suc, Bool, true, false, cond, eqb, List, [], ◌∷◌, ◌++◌, length, take, drop, get_or, Option, None, refl, sym, ap, subst, ◌∙◌, arith, inl, inr}
 use Rattle.std.specs.Prelude.{nat_eq, insert, remove, Contains}
 use Rattle.std.specs.List.{AllByRecursion, IsDistinct}
-use Rattle.std.proofs.lemmas.List.{length-append, length-take-le, take_at, drop_at}
+use Rattle.std.proofs.lemmas.List.{length-append, length-take-le, take_at, drop_at, take-append-drop}
 use Rattle.std.proofs.lemmas.List.Edits.{length-remove}
 use Rattle.std.proofs.lemmas.List.Sums.{sum_by-remove}
 use Rattle.std.proofs.lemmas.Bool.Decides.{eqb_tells}
@@ -396,3 +396,19 @@ update_carries path item is rows found room fits = record {
       (update_leaf im a.page lsn a.spot.lo a.spot.hi a.spot.mid item a.spot.part.0 is (subst (HasKey item.key) a.is found) (subst HasRows a.is rows) a.spot.low_end a.spot.high_end)
       (with_within item.key (leaf_bytes item) a.spot.ahead a.spot.mid a.spot.after a.spot.lesser a.spot.greater));
 }
+
+-- ---- no item has the key
+
+pub absent_stays : (key : List ℕ) (path : List Image) → HasRows (leaf_on path) → ¬ HasKey key (leaf_on path) → (w : IsWayTo key path) → without_item key w.items ≡ w.items
+absent_stays key path rows no_key w =
+    let a = at_leaf key path w in
+    let s = a.spot in
+    let im = w.pages a.page in
+    let p = absent_place key im (subst HasRows a.is rows) (subst (λ (l : Image). ¬ HasKey key l) a.is no_key) in
+    let here : without_item key im.items ≡ im.items =
+    ap (λ (l : List (List ℕ)). l ++ behind key im.items) p.1.front ∙ ap (λ (l : List (List ℕ)). take p.0 im.items ++ l) p.1.back ∙ take-append-drop p.0 im.items in
+    let mid : without_item key s.mid ≡ s.mid = ap (without_item key) (sym s.part.0.has) ∙ here ∙ s.part.0.has in
+    ap (without_item key) s.items_are
+    ∙ without_within key s.ahead s.mid s.after s.lesser s.greater
+    ∙ ap (λ (l : List (List ℕ)). s.ahead ++ (l ++ s.after)) mid
+    ∙ sym s.items_are

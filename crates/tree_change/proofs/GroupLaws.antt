@@ -105,7 +105,7 @@ fits_separator page at child tree within =
     let key = length-key_in (get_or page.items at []) in
     fits_entry (separator page at) child (omega (arith, item, key))
 
-fits_count : (n : ℕ) → (1 ≤ length (field 4 n)) × (length (field 4 n) ≤ PAGE_BYTES - HEADER_BYTES)
+pub fits_count : (n : ℕ) → (1 ≤ length (field 4 n)) × (length (field 4 n) ≤ PAGE_BYTES - HEADER_BYTES)
 fits_count n = let f = length-field 4 n in (omega (arith, f), omega (arith, f))
 
 -- ---- the plans

@@ -10,6 +10,8 @@ pub mod WayLaws
 pub mod NodeLaws
 pub mod MemberLaws
 pub mod GroupLaws
+pub mod FrameLaws
+pub mod BeginLaws
 pub mod ChangeLaws
 pub mod AnswerLaws
 pub mod CountLaws

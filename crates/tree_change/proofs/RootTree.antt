@@ -384,7 +384,7 @@ root_keeps key path place meta is_place page_is image low is_meta meta_image bou
       group = group;
       only = λ lsn im ne. untouched lsn (root_split_records (page_on path 0) place meta) im (none_root (page_on path 0) meta place im.page ne.0 ne.1.0 ne.1.1.0 ne.1.1.1.0);
       within = within;
-      made = record { next = ((omega arith, omega arith), ((omega arith, omega arith), tt)); bound = omega arith };
+      made = record { some = omega arith; next = ((omega arith, omega arith), ((omega arith, omega arith), tt)); bound = omega arith };
       applies = λ w fresh lsn page number.
           subst (λ (r : List Record). RecordsApply lsn r (w.pages page)) (sym (same w))
           (root_applies key path w meta place lsn (setting w fresh.meta_is fresh.unmade.0 fresh.unmade.1.0) page number);

@@ -1,14 +1,16 @@
 -- Items by ascending keys, cut and joined.
-use Rattle.std.proofs.Common.{◌≡◌, ◌<◌, ◌≤◌, ℕ, zero, suc, Bool, true, false, cond, List, [], ◌∷◌, ◌++◌, length, get_or, slice_get, Some, refl, sym, ap, subst, arith, inl, inr}
+use Rattle.std.proofs.Common.{◌≡◌, ◌<◌, ◌≤◌, ℕ, zero, suc, Bool, true, false, cond, List, [], ◌∷◌, ◌++◌, length, get_or, slice_get, Some, refl, sym, ap, subst, ◌∙◌, arith, inl, inr}
 use Rattle.std.specs.Prelude.{filter, ◌⊎◌}
 use Rattle.std.specs.List.{AllByRecursion}
 use Rattle.std.specs.Ordering.{is_lt, is_gt}
 use Rattle.std.specs.declared.cmp.Ordering.{Ordering}
 use Rattle.std.specs.declared.cmp.Ordering.TheVariants.{Less, Equal, Greater}
+use Rattle.std.proofs.lemmas.Bool.{cases_lt}
+use Rattle.std.proofs.lemmas.Option.{slice_get_within, get_or_from_slice_get}
 use Rattle.std.proofs.lemmas.List.Elements.{All-from_get_or, recursion_from_All, All-get_or, All-from_recursion}
 use Rattle.page_view.specs.Keys.{key_in, keys_of, key_cmp, Ascend, LessBelow, GreaterFrom}
 use Rattle.tree_change.specs.Places.{before, behind}
-use Rattle.tree_change.proofs.PlaceLaws.{key_of_item, as_many, less_trans, turned_back, turned, equal_from}
+use Rattle.tree_change.proofs.PlaceLaws.{key_of_item, as_many, less_trans, turned_back, turned, equal_from, same_key}
 use Rattle.tree_change.proofs.ListLaws.{all_front, all_back, all_join, all_weaker}
 
 -- each item's key is less than those of the items behind it
@@ -159,3 +161,14 @@ placed_by Greater k ks key e asc p = inr (0, (omega arith), (λ i h. absurd (ome
 pub placed : (keys : List (List ℕ)) (key : List ℕ) → Ascend keys → IsPlaced keys key
 placed [] key asc = inr (0, (omega arith), (λ i h. absurd (omega arith)), (λ i h w. absurd (omega arith)))
 placed (k ∷ ks) key asc = placed_by (key_cmp k key) k ks key refl asc (placed ks key (ascend_tail k ks asc))
+
+-- a key that has a place between others is none of them
+pub not_there : (keys : List (List ℕ)) (key : List ℕ) (n i : ℕ) → LessBelow keys n key → GreaterFrom keys n key → slice_get keys i ≡ Some key → ⊥
+not_there keys key n i less greater e =
+    let inside : i < length keys = slice_get_within keys i key e in
+    let here : get_or keys i [] ≡ key = get_or_from_slice_get keys i key [] e in
+    let same : key_cmp (get_or keys i []) key ≡ Equal = ap (λ (k : List ℕ). key_cmp k key) here ∙ same_key key in
+    elim (cases_lt i n) [
+      | inl below ↦ (let h : Equal ≡ Less = sym same ∙ less i below in cc)
+      | inr above ↦ (let h : Equal ≡ Greater = sym same ∙ greater i above inside in cc)
+    ]

@@ -133,7 +133,7 @@ split_keeps key path i at meta inside place page_is image room is_meta meta_imag
       group = group;
       only = λ lsn im ne. untouched lsn rs im (none_else key (page_on path i) (page_on path (i + 1)) meta at im.page ne.0 ne.1.0 ne.1.1.0 ne.1.1.1.0);
       within = within;
-      made = record { next = ((omega arith, omega arith), tt); bound = omega arith };
+      made = record { some = omega arith; next = ((omega arith, omega arith), tt); bound = omega arith };
       applies = λ w fresh lsn page number.
           let s = setting w fresh.meta_is fresh.unmade.0 in
           subst (λ (r : List Record). RecordsApply lsn r (w.pages page)) (sym (same w s))

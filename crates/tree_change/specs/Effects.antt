@@ -1,5 +1,5 @@
 -- What a plan's records do to a tree's pages.
-use Rattle.std.specs.Prelude.{◌≡◌, ◌≢◌, ◌≤◌, ◌<◌, ◌+◌, ◌⊎◌, ◌↔◌, ℕ, List, ◌∷◌, ◌++◌, length, Contains}
+use Rattle.std.specs.Prelude.{◌≡◌, ◌≢◌, ◌≤◌, ◌<◌, ◌+◌, ◌⊎◌, ◌↔◌, ℕ, List, [], ◌∷◌, ◌++◌, length, Contains}
 use Rattle.std.specs.List.{AllByRecursion}
 use Rattle.page_image.specs.Image.{Image, unmade}
 use Rattle.redo_record.specs.declared.redo.Record.{Record}
@@ -64,8 +64,9 @@ pub record Counts (meta : Image) (pages : ℕ) : Type 0 where
   pub is_meta : IsMeta meta
   pub count_is : count_of meta ≡ pages
 
--- the pages that the plan makes are the next ones that the meta page counts
+-- the pages that the plan makes, at least one, are the next ones that the meta page counts
 pub record MakesNext (meta : Image) (plan : Plan) : Type 0 where
+  pub some : 1 ≤ length plan.made
   pub next : AllByRecursion (λ page. (count_of meta ≤ page) × (page < count_of meta + length plan.made)) plan.made
   pub bound : count_of meta + length plan.made ≤ 32768
 
@@ -78,4 +79,15 @@ pub record Keeps (key : List ℕ) (path : List Image) (meta : Image) (plan : Pla
   pub made : MakesNext meta plan
   pub applies : (w : IsWayTo key path) → IsFresh w.pages meta plan → (lsn page : ℕ) → (w.pages page).page ≡ page → RecordsApply lsn plan.records (w.pages page)
   pub stands : (w : IsWayTo key path) → IsFresh w.pages meta plan → (lsn : ℕ) → GrowsOn (pages_after lsn plan.records w.pages) w.root w.items w.tree.nodes plan.made
+  pub counts : (w : IsWayTo key path) → IsFresh w.pages meta plan → (lsn : ℕ) → Counts (pages_after lsn plan.records w.pages meta.page) (count_of meta + length plan.made)
+
+-- As `Carries`, and besides the page that the meta page counts next becomes an empty tree, and is counted.
+pub record Begins (key : List ℕ) (path : List Image) (meta : Image) (plan : Plan) (change : List (List ℕ) → List (List ℕ)) : Type 0 where
+  pub group : MakeGroup plan.records
+  pub only : TouchesOnly plan.pages plan.records
+  pub within : (w : IsWayTo key path) (page : ℕ) → Contains plan.pages page → Contains w.tree.nodes page ⊎ (Contains plan.made page ⊎ (page ≡ meta.page))
+  pub made : MakesNext meta plan
+  pub applies : (w : IsWayTo key path) → IsFresh w.pages meta plan → (lsn page : ℕ) → (w.pages page).page ≡ page → RecordsApply lsn plan.records (w.pages page)
+  pub stands : (w : IsWayTo key path) → IsFresh w.pages meta plan → (lsn : ℕ) → StandsOn (pages_after lsn plan.records w.pages) w.root (change w.items) w.tree.nodes w.tree.level
+  pub begins : (w : IsWayTo key path) → IsFresh w.pages meta plan → (lsn : ℕ) → StandsOn (pages_after lsn plan.records w.pages) (count_of meta) [] (count_of meta ∷ []) 0
   pub counts : (w : IsWayTo key path) → IsFresh w.pages meta plan → (lsn : ℕ) → Counts (pages_after lsn plan.records w.pages meta.page) (count_of meta + length plan.made)

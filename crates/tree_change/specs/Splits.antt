@@ -1,5 +1,5 @@
 -- The plans that split a page.
-use Rattle.std.specs.Prelude.{◌≡◌, ◌≤◌, ◌<◌, ◌+◌, ◌==◌, ℕ, true, false, List, [], ◌∷◌, ◌++◌, length, take, drop, slice_index, slice_index_or, Option, MatchOption, if◌then◌else◌}
+use Rattle.std.specs.Prelude.{◌≡◌, ◌≤◌, ◌<◌, ◌+◌, ◌==◌, ℕ, Bool, true, false, List, [], ◌∷◌, ◌++◌, length, take, drop, slice_index, slice_index_or, Option, MatchOption, if◌then◌else◌}
 use Rattle.std.specs.List.{AllByRecursion}
 use Rattle.rm_base.specs.Fields.{field, number}
 use Rattle.page_image.specs.declared.kind.Kind.TheVariants.{Meta, Inner}
@@ -23,10 +23,19 @@ pub record IsFirstFull (item : LeafItem) (path : List Image) (i : ℕ) : Type 0 
   pub full : lacks_room item (page_on path i) ≡ true
   pub others : (j : ℕ) → j < i → lacks_room item (page_on path j) ≡ false
 
+-- each page of a path has room
+abbrev pub HaveRoom : LeafItem → List Image → Type 0
+HaveRoom item path = (i : ℕ) → i < length path → lacks_room item (page_on path i) ≡ false
+
 -- the first such page, or none where each page has room
 abbrev pub IsFirstFullOrNone : LeafItem → List Image → Option ℕ → Type 0
 IsFirstFullOrNone item path found =
-    MatchOption found ((i : ℕ) → i < length path → lacks_room item (page_on path i) ≡ false) (λ i. IsFirstFull item path i)
+    MatchOption found (HaveRoom item path) (λ i. IsFirstFull item path i)
+
+-- there are pages for a split: two and a level for one of the root, where it is the root that lacks room, else one
+abbrev pub SpaceFor : Bool → Image → ℕ → Type 0
+SpaceFor true root count = (root.level < 8) × (count + 1 ≤ 32767)
+SpaceFor false root count = count ≤ 32767
 
 -- the least number of items that take half a page or more with their slots; each half has an item
 pub record IsSplitPlace (items : List (List ℕ)) (at : ℕ) : Type 0 where

@@ -132,7 +132,7 @@ pub(crate) fn split_below(
 }
 
 /// The first page of the path with too little room, where there is one.
-fn first_full(path: &[Page], item: &LeafItem) -> Option<usize>
+pub(crate) fn first_full(path: &[Page], item: &LeafItem) -> Option<usize>
     requires pages { (i : ℕ) → i < length path.now → IsTreePage (page_on path.now i) }
     requires item { IsLeaf item.now }
     ensures { IsFirstFullOrNone item.now path.now result }

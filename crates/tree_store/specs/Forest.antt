@@ -1,0 +1,40 @@
+-- Trees that stand side by side on the pages of one store.
+use Rattle.std.specs.Prelude.{◌≡◌, ◌≤◌, ℕ, List, map, Contains, nat_eq, if◌then◌else◌}
+use Rattle.page_image.specs.Image.{Image, unmade}
+use Rattle.page_view.specs.declared.leaf.LeafItem.{LeafItem}
+use Rattle.bplus_tree.specs.Tree.{Tree, Way}
+use Rattle.tree_change.specs.Places.{leaf_on}
+use Rattle.tree_change.specs.Room.{size_of, room_for}
+use Rattle.tree_change.specs.Splits.{IsMeta, count_of}
+use Rattle.tree_store.specs.declared.TheConstants.{FIRST_FREE_PAGE, MOST_PAGES}
+
+-- a tree that stands for the items, each page of which belongs to it
+pub record Owns (pages : ℕ → Image) (owner : ℕ → ℕ) (root : ℕ) (items : List (List ℕ)) : Type 0 where
+  pub tree : Tree pages root items
+  pub owned : (page : ℕ) → Contains tree.nodes page → owner page ≡ root
+
+-- Page 0 counts the pages, from that number on none is made, and at each root a tree stands for its items. No page
+-- belongs to two trees: each has one root that owns it.
+pub record Forest (pages : ℕ → Image) (roots : List ℕ) (items : ℕ → List (List ℕ)) : Type 0 where
+  pub meta : IsMeta (pages 0)
+  pub low : FIRST_FREE_PAGE ≤ count_of (pages 0)
+  pub high : count_of (pages 0) ≤ MOST_PAGES
+  pub free : (page : ℕ) → count_of (pages 0) ≤ page → pages page ≡ unmade page
+  pub numbered : (page : ℕ) → (pages page).page ≡ page
+  pub owner : ℕ → ℕ
+  pub trees : (root : ℕ) → Contains roots root → Owns pages owner root (items root)
+
+-- the items of the trees, where the one at the root has new ones
+abbrev pub with_tree : (ℕ → List (List ℕ)) → ℕ → List (List ℕ) → ℕ → List (List ℕ)
+with_tree items root new r = if nat_eq r root then new else items r
+
+-- the pages of the path are those from the root of a tree down to the leaf of the key
+pub record IsWayIn (pages : ℕ → Image) (root : ℕ) (key : List ℕ) (path : List Image) : Type 0 where
+  pub numbers : List ℕ
+  pub way : (items : List (List ℕ)) (tree : Tree pages root items) → Way pages tree.level root key numbers
+  pub read : path ≡ map pages numbers
+
+-- they are, and the leaf has room for the item
+pub record HasRoom (pages : ℕ → Image) (root : ℕ) (item : LeafItem) (path : List Image) : Type 0 where
+  pub way : IsWayIn pages root item.key path
+  pub room : size_of item ≤ room_for item.key (leaf_on path)
