@@ -165,9 +165,13 @@ root_group root meta at tree within level low some_left room_left some_right roo
     record {
       some = omega arith;
       most = omega (arith, l1, l2, l3, l4, n1, n2, n3, n4, n5, room_left, room_right);
-      each = all_join IsAdmitted halves (to ++ (top ++ last))
-          ((made_of root tree, level), ((made_of root tree, level),
-          all_join IsAdmitted a b (admitted_inserts left 0 (take at root.items) some_left room_left) (admitted_inserts right 0 (right_half root at) some_right room_right)))
+      each = all_join IsAdmitted halves (to ++ (top ++ last)) (
+        (made_of root tree, level),
+        (
+          (made_of root tree, level),
+          all_join IsAdmitted a b (admitted_inserts left 0 (take at root.items) some_left room_left) (admitted_inserts right 0 (right_half root at) some_right room_right),
+        ),
+      )
           (all_join IsAdmitted to (top ++ last) (admitted_to root left right bound)
           (all_join IsAdmitted top last (tt, (inner, (fits_entry [] left (omega arith), (fits_separator root at right tree within, tt)))) (fits_count (right + 1), tt)));
     }

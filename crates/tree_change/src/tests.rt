@@ -16,6 +16,10 @@ use rm_base::{Bytes, Duplicate, Items, Lsn, PageId, TrxId, UndoPtr, WantOfMemory
 use std::alloc::Global;
 use std::test::Fail;
 
+mod whole_tree;
+
+use whole_tree::stands_for;
+
 /// The number of the first page that is not the meta page.
 const FIRST: u32 = 1028;
 
@@ -286,20 +290,32 @@ fn next_plan(
     }
 }
 
+/// Does the next step of putting the item in: true where it was the change, false where it was a split.
+/// None where it fails.
+fn one_step(
+    alloc: Global,
+    store: &mut Store,
+    item: &LeafItem,
+) -> Result<Option<bool>, WantOfMemory> {
+    let Some(path) = way(alloc, store, item.key.as_slice())? else {
+        return Ok(None);
+    };
+    let Some(Ok(plan)) = next_plan(alloc, store, path.as_slice(), item)? else {
+        return Ok(None);
+    };
+    if !install(alloc, store, &plan)? {
+        return Ok(None);
+    }
+    Ok(Some(plan.made.as_slice().is_empty()))
+}
+
 /// Puts the item in, with the splits that it needs. False where a step fails.
 fn put(alloc: Global, store: &mut Store, item: &LeafItem) -> Result<bool, WantOfMemory> {
     for _ in 0..20 {
-        let Some(path) = way(alloc, store, item.key.as_slice())? else {
-            return Ok(false);
-        };
-        let Some(Ok(plan)) = next_plan(alloc, store, path.as_slice(), item)? else {
-            return Ok(false);
-        };
-        if !install(alloc, store, &plan)? {
-            return Ok(false);
-        }
-        if plan.made.as_slice().is_empty() {
-            return Ok(true);
+        match one_step(alloc, store, item)? {
+            Some(false) => {}
+            Some(true) => return Ok(true),
+            None => return Ok(false),
         }
     }
     Ok(false)
@@ -397,25 +413,6 @@ fn next_number(n: u64) -> u64 {
         .wrapping_add(1442695040888963407)
 }
 
-/// Whether the list has exactly the keys that are there, in order, each with its flag and its bytes.
-fn agrees(rows: &[LeafItem], wanted: &[Option<(bool, usize)>; 48]) -> bool {
-    let mut left = rows.iter();
-    for (key, there) in wanted.iter().enumerate() {
-        if let Some((deleted, value)) = there {
-            let Some(row) = left.next() else {
-                return false;
-            };
-            let same = row.key.as_slice() == [key as u8].as_slice()
-                && row.deleted == *deleted
-                && row.value.len() == *value;
-            if !same {
-                return false;
-            }
-        }
-    }
-    left.next().is_none()
-}
-
 #[test]
 fn changes_without_an_order_leave_the_list_that_they_say(rt: HostRuntime) -> Result<(), Fail> {
     let mut store = empty_tree(rt.alloc())?.ok_or("no tree")?;
@@ -442,8 +439,44 @@ fn changes_without_an_order_leave_the_list_that_they_say(rt: HostRuntime) -> Res
                 wanted[key] = Some((false, value));
             }
         }
-        let rows = listed(rt.alloc(), &store)?.ok_or("no list")?;
-        assert!(rt; agrees(&rows, &wanted), "{n}");
+        assert!(rt; stands_for(rt.alloc(), &store, &wanted)?, "{n}");
+    }
+    Ok(())
+}
+
+/// A key of 64 bytes.
+fn long_key(n: u64) -> [u8; 64] {
+    let mut key = [b'k'; 64];
+    key[56..].copy_from_slice(&n.to_be_bytes());
+    key
+}
+
+/// Whether the root is an inner page with too little room for one more entry.
+fn root_is_full(store: &Store) -> bool {
+    match page_at(store, FIRST) {
+        Some(root) => root.level() == 1 && root.free() < 71,
+        None => false,
+    }
+}
+
+#[test]
+fn an_update_of_equal_size_splits_an_inner_page_without_room(rt: HostRuntime) -> Result<(), Fail> {
+    let mut store = empty_tree(rt.alloc())?.ok_or("no tree")?;
+    let mut n = 1u64;
+    for _ in 0..400 {
+        if !root_is_full(&store) {
+            let item = item_of(rt.alloc(), &long_key(n), 900, false)?;
+            let changed = one_step(rt.alloc(), &mut store, &item)?.ok_or("a step failed")?;
+            n = n.wrapping_add(u64::from(changed));
+        }
+    }
+    assert!(rt; root_is_full(&store));
+    let pages = store.pages.len();
+    let item = item_of(rt.alloc(), &long_key(1), 900, true)?;
+    for level in [2, 2] {
+        assert!(rt; put(rt.alloc(), &mut store, &item)?);
+        assert_eq!(rt; store.pages.len(), pages.saturating_add(2));
+        assert_eq!(rt; store.pages.first().map(|root| root.level()), Some(level));
     }
     Ok(())
 }
