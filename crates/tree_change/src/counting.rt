@@ -11,7 +11,8 @@ use std::alloc::Global;
 /// Where a meta page has the number of pages.
 pub const COUNT_AT: u16 = 36;
 
-pub(crate) fn count_of(meta: &Page) -> u32
+/// The number of pages that the meta page counts.
+pub fn count_of(meta: &Page) -> u32
     requires { meta.now.kind ≡ Kind.Meta }
     ensures { result ≡ spec.count_of meta.now }
 {

@@ -6,7 +6,8 @@ use Rattle.bplus_tree.specs.Tree.{Tree, Way}
 use Rattle.tree_change.specs.Places.{leaf_on}
 use Rattle.tree_change.specs.Room.{size_of, room_for}
 use Rattle.tree_change.specs.Splits.{IsMeta, count_of}
-use Rattle.tree_store.specs.declared.TheConstants.{FIRST_FREE_PAGE, MOST_PAGES}
+use Rattle.page_store.specs.declared.TheConstants.{FIRST_FREE}
+use Rattle.tree_store.specs.declared.TheConstants.{MOST_PAGES}
 
 -- a tree that stands for the items, each page of which belongs to it
 pub record Owns (pages : ℕ → Image) (owner : ℕ → ℕ) (root : ℕ) (items : List (List ℕ)) : Type 0 where
@@ -17,7 +18,7 @@ pub record Owns (pages : ℕ → Image) (owner : ℕ → ℕ) (root : ℕ) (item
 -- belongs to two trees: each has one root that owns it.
 pub record Forest (pages : ℕ → Image) (roots : List ℕ) (items : ℕ → List (List ℕ)) : Type 0 where
   pub meta : IsMeta (pages 0)
-  pub low : FIRST_FREE_PAGE ≤ count_of (pages 0)
+  pub low : FIRST_FREE ≤ count_of (pages 0)
   pub high : count_of (pages 0) ≤ MOST_PAGES
   pub free : (page : ℕ) → count_of (pages 0) ≤ page → pages page ≡ unmade page
   pub numbered : (page : ℕ) → (pages page).page ≡ page

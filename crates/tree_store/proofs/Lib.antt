@@ -1,0 +1,3 @@
+pub mod ForestLaws
+pub mod WayLaws
+pub mod WalkLaws
