@@ -88,7 +88,7 @@ unfolding IsDistinct
 alone page = (tt, tt)
 
 -- an empty leaf is a tree
-empty_tree : (pages : ℕ → Image) (page lsn : ℕ) → pages page ≡ made (unmade page) Leaf 0 lsn → StandsOn pages page [] (page ∷ []) 0
+pub empty_tree : (pages : ℕ → Image) (page lsn : ℕ) → pages page ≡ made (unmade page) Leaf 0 lsn → StandsOn pages page [] (page ∷ []) 0
 empty_tree pages page lsn e =
     let kind : (pages page).kind ≡ Leaf = ap (λ (o : Image). o.kind) e in
     let leaf : Tree pages page [] = record {

@@ -44,11 +44,11 @@ stands_frame pages others (suc level) page low high items nodes same h =
 abbrev pub Within : Option (List ℕ) → Option (List ℕ) → List (List ℕ) → Type 0
 Within low high items = AllByRecursion (λ item. NotBelow low (key_in item)) items × AllByRecursion (λ item. Below high (key_in item)) items
 
-lower : (low : Option (List ℕ)) (a b : List ℕ) → Beyond low a → NotBelow (Some a) b → NotBelow low b
+pub lower : (low : Option (List ℕ)) (a b : List ℕ) → Beyond low a → NotBelow (Some a) b → NotBelow low b
 lower None a b h ne = tt
 lower (Some low) a b h ne = not_greater_from (key_cmp low b) (less_then low a b h ne)
 
-parts_within : (C : Child)
+pub parts_within : (C : Child)
     → ((page : ℕ) (low high : Option (List ℕ)) (items : List (List ℕ)) (nodes : List ℕ) → C page low high items nodes → Within low high items)
     → (es : List InnerItem) (low high : Option (List ℕ)) (items : List (List ℕ)) (nodes : List ℕ) → Parts C es low high items nodes → Within low high items
 parts_within C within [] low high items nodes p = absurd p

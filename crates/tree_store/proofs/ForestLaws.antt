@@ -333,6 +333,13 @@ begun pages roots items f root c key path v plan change k lsn =
         subst (λ (p : ℕ). Owns (pages_after lsn plan.records pages) (owned_by count count f.owner) p (with_tree one count [] p)) (sym is)
         (subst (Owns (pages_after lsn plan.records pages) (owned_by count count f.owner) count) (sym (with_same one count [] count refl)) owns_new)
 
+pub root_bound : (pages : ℕ → Image) (roots : List ℕ) (items : ℕ → List (List ℕ)) → Forest pages roots items → (root : ℕ) → Contains roots root → root ≤ 32767
+root_bound pages roots items f root c =
+    let tree = (f.trees root c).tree in
+    let below = counted_node pages roots items f root (node_at pages root (items root) tree root (root_node pages root (items root) tree)) in
+    let high = f.high in
+    omega (arith, below, high)
+
 pub not_a_root : (pages : ℕ → Image) (roots : List ℕ) (items : ℕ → List (List ℕ)) → Forest pages roots items → ¬ Contains roots (count_of (pages 0))
 not_a_root pages roots items f d =
     let count : ℕ = count_of (pages 0) in

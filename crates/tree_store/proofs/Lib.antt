@@ -1,3 +1,5 @@
 pub mod ForestLaws
+pub mod PageLaws
 pub mod WayLaws
 pub mod WalkLaws
+pub mod ChangeLaws

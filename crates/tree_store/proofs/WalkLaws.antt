@@ -38,16 +38,14 @@ leaf_from kind.Leaf e = refl
 leaf_from kind.Inner e = cc
 leaf_from kind.Undo e = cc
 
+rows_by : (pages : ℕ → Image) (q : ℕ) (rest : List ℕ) (b : Bool) → is_leaf (pages q).kind ≡ b → RowsIfLeaf pages q → AllByRecursion (λ p. HasRows (pages p)) rest
+    → AllByRecursion (λ p. HasRows (pages p)) (cond b (q ∷ rest) rest)
+rows_by pages q rest true e own all = (own (leaf_from (pages q).kind e), all)
+rows_by pages q rest false e own all = all
+
 rows_of_leaves : (pages : ℕ → Image) (nodes : List ℕ) → AllByRecursion (RowsIfLeaf pages) nodes → AllByRecursion (λ q. HasRows (pages q)) (leaves_of pages nodes)
 rows_of_leaves pages [] all = tt
-rows_of_leaves pages (q ∷ nodes) all = by_test (is_leaf (pages q).kind) refl
-  where
-    rest : AllByRecursion (λ p. HasRows (pages p)) (leaves_of pages nodes)
-    rest = rows_of_leaves pages nodes all.1
-
-    by_test : (b : Bool) → is_leaf (pages q).kind ≡ b → AllByRecursion (λ p. HasRows (pages p)) (cond b (q ∷ leaves_of pages nodes) (leaves_of pages nodes))
-    by_test true e = (all.0 (leaf_from (pages q).kind e), rest)
-    by_test false e = rest
+rows_of_leaves pages (q ∷ nodes) all = rows_by pages q (leaves_of pages nodes) (is_leaf (pages q).kind) refl all.0 (rows_of_leaves pages nodes all.1)
 
 pub range_held : (pages : ℕ → Image) (root : ℕ) (items : List (List ℕ)) (tree : Tree pages root items) (low high : Option (List ℕ)) (f : FindsRange pages root items tree.nodes low high)
     → HoldsRange pages low high items f.leaves
