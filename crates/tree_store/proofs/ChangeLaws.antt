@@ -1,5 +1,5 @@
 -- What the groups of plans do to the trees of a store.
-use Rattle.std.proofs.Common.{◌≡◌, ◌<◌, ◌≤◌, ◌+◌, ℕ, List, [], ◌∷◌, ◌++◌, length, Option, Some, Result, Ok, sym, ap, subst, ◌∙◌, arith}
+use Rattle.std.proofs.Common.{◌≡◌, ◌<◌, ◌≤◌, ◌+◌, ℕ, List, [], ◌∷◌, ◌++◌, length, Option, Some, None, IsNone, Result, Ok, refl, sym, ap, subst, ◌∙◌, arith}
 use Rattle.std.specs.Prelude.{Contains, IfSome, IfOk}
 use Rattle.page_image.specs.Image.{Image}
 use Rattle.redo_record.specs.declared.redo.Record.{Record}
@@ -81,3 +81,9 @@ pub planned : {A B : Type 0} (o : Option (Result A B)) (r : Result A B) (plan : 
 planned {A = A} {B = B} o r plan P h e q =
     let one : IfOk r P = subst (λ (x : Option (Result A B)). IfSome x (λ a. IfOk a P)) e h in
     subst (λ (x : Result A B). IfOk x P) q one
+
+-- what holds after a split
+pub grew : {A B : Type 0} (o : Result (Option A) B) (found : Option A) (P : Type 0) → IfOk o (λ x. IsNone x → P) → o ≡ Ok found → found ≡ None → P
+grew {A = A} {B = B} o found P h e q =
+    let one : IsNone found → P = subst (λ (r : Result (Option A) B). IfOk r (λ x. IsNone x → P)) e h in
+    subst (λ (x : Option A). IsNone x → P) q one refl
