@@ -25,6 +25,10 @@ pub record Forest (pages : ℕ → Image) (roots : List ℕ) (items : ℕ → Li
   pub owner : ℕ → ℕ
   pub trees : (root : ℕ) → Contains roots root → Owns pages owner root (items root)
 
+-- one of the trees stands at the root
+abbrev pub IsRoot : (ℕ → Image) → ℕ → Type 0
+IsRoot pages root = (roots : List ℕ) × (items : ℕ → List (List ℕ)) × Forest pages roots items × Contains roots root
+
 -- the items of the trees, where the one at the root has new ones
 abbrev pub with_tree : (ℕ → List (List ℕ)) → ℕ → List (List ℕ) → ℕ → List (List ℕ)
 with_tree items root new r = if nat_eq r root then new else items r

@@ -5,7 +5,7 @@ ghost use Rattle.page_view.specs.Leaf.{IsLeaf, leaf_bytes};
 ghost use Rattle.page_store.specs.Stored.{pages_of, with_group};
 ghost use Rattle.tree_change.specs.Splits.{count_of};
 ghost use Rattle.tree_change.specs.Effects.{MakeGroup, with_item, without_item};
-ghost use Rattle.tree_store.specs.Forest.{Forest, HasRoom, with_tree};
+ghost use Rattle.tree_store.specs.Forest.{Forest, IsRoot, HasRoom, with_tree};
 
 use crate::finding::{meta_page, way};
 use page_store::PageStore;
@@ -32,7 +32,7 @@ fn split_or_way(
     root: PageId,
     item: &LeafItem,
 ) -> Result<Result<Option<Path>, TreeNo>, WantOfMemory>
-    requires forest { (roots : List ℕ) × (items : ℕ → List (List ℕ)) × Forest (pages_of store.old) roots items × Contains roots root }
+    requires forest { IsRoot (pages_of store.old) root }
     requires item { IsLeaf item.now }
     ensures forest { (roots : List ℕ) (items : ℕ → List (List ℕ)) → Forest (pages_of store.old) roots items → Contains roots root
         → OnOk result (Forest (pages_of store.new) roots items) }
@@ -61,7 +61,7 @@ pub fn make_room(
     root: PageId,
     item: &LeafItem,
 ) -> Result<Result<Path, TreeNo>, WantOfMemory>
-    requires forest { (roots : List ℕ) × (items : ℕ → List (List ℕ)) × Forest (pages_of store.old) roots items × Contains roots root }
+    requires forest { IsRoot (pages_of store.old) root }
     requires item { IsLeaf item.now }
     ensures forest { (roots : List ℕ) (items : ℕ → List (List ℕ)) → Forest (pages_of store.old) roots items → Contains roots root
         → OnOk result (Forest (pages_of store.new) roots items) }
@@ -86,7 +86,7 @@ fn put_on(
     path: &Path,
     item: &LeafItem,
 ) -> Result<(), WantOfMemory>
-    requires forest { (roots : List ℕ) × (items : ℕ → List (List ℕ)) × Forest (pages_of store.old) roots items × Contains roots root }
+    requires forest { IsRoot (pages_of store.old) root }
     requires item { IsLeaf item.now }
     requires room { HasRoom (pages_of store.old) root item.now path.now }
     ensures ok { (roots : List ℕ) (items : ℕ → List (List ℕ)) → Forest (pages_of store.old) roots items → Contains roots root
@@ -104,7 +104,7 @@ pub fn put(
     root: PageId,
     item: &LeafItem,
 ) -> Result<Result<(), TreeNo>, WantOfMemory>
-    requires forest { (roots : List ℕ) × (items : ℕ → List (List ℕ)) × Forest (pages_of store.old) roots items × Contains roots root }
+    requires forest { IsRoot (pages_of store.old) root }
     requires item { IsLeaf item.now }
     ensures ok { (roots : List ℕ) (items : ℕ → List (List ℕ)) → Forest (pages_of store.old) roots items → Contains roots root
         → IfOk result (λ answer. OnOk answer (Forest (pages_of store.new) roots (with_tree items root (with_item item.now.key (leaf_bytes item.now) (items root))))) }
@@ -147,7 +147,7 @@ fn take_from(
     path: &Path,
     item: &LeafItem,
 ) -> Result<(), WantOfMemory>
-    requires forest { (roots : List ℕ) × (items : ℕ → List (List ℕ)) × Forest (pages_of store.old) roots items × Contains roots root }
+    requires forest { IsRoot (pages_of store.old) root }
     requires room { HasRoom (pages_of store.old) root item.now path.now }
     ensures ok { (roots : List ℕ) (items : ℕ → List (List ℕ)) → Forest (pages_of store.old) roots items → Contains roots root
         → OnOk result (Forest (pages_of store.new) roots (with_tree items root (without_item item.now.key (items root)))) }
@@ -167,7 +167,7 @@ pub fn take_out(
     root: PageId,
     key: &[u8],
 ) -> Result<Result<(), TreeNo>, WantOfMemory>
-    requires forest { (roots : List ℕ) × (items : ℕ → List (List ℕ)) × Forest (pages_of store.old) roots items × Contains roots root }
+    requires forest { IsRoot (pages_of store.old) root }
     requires short { length key.now ≤ 64 }
     ensures ok { (roots : List ℕ) (items : ℕ → List (List ℕ)) → Forest (pages_of store.old) roots items → Contains roots root
         → IfOk result (λ answer. OnOk answer (Forest (pages_of store.new) roots (with_tree items root (without_item key.now (items root))))) }
@@ -195,7 +195,7 @@ pub fn put_with_tree(
     path: &Path,
     item: &LeafItem,
 ) -> Result<(), WantOfMemory>
-    requires forest { (roots : List ℕ) × (items : ℕ → List (List ℕ)) × Forest (pages_of store.old) roots items × Contains roots root }
+    requires forest { IsRoot (pages_of store.old) root }
     requires item { IsLeaf item.now }
     requires room { HasRoom (pages_of store.old) root item.now path.now }
     requires next { count_of (pages_of store.old 0) ≤ 32767 }

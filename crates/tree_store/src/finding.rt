@@ -3,7 +3,7 @@ ghost use Rattle.std.specs.Prelude.{◌≡◌, ◌≤◌, ℕ, List, Contains, I
 ghost use Rattle.page_store.specs.Stored.{pages_of};
 ghost use Rattle.tree_change.specs.Splits.{IsMeta};
 ghost use Rattle.tree_change.specs.Splits as splits;
-ghost use Rattle.tree_store.specs.Forest.{Forest, IsWayIn};
+ghost use Rattle.tree_store.specs.Forest.{Forest, IsRoot, IsWayIn};
 ghost use Rattle.tree_store.specs.Found.{HoldsRange};
 ghost use Rattle.tree_store.specs.Found as spec;
 
@@ -22,7 +22,7 @@ pub(crate) fn way(
     root: PageId,
     key: &[u8],
 ) -> Result<Path, WantOfMemory>
-    requires { (roots : List ℕ) × (items : ℕ → List (List ℕ)) × Forest (pages_of store.now) roots items × Contains roots root }
+    requires { IsRoot (pages_of store.now) root }
     ensures { IfOk result (IsWayIn (pages_of store.now) root key.now) }
 {
     search_laws();
@@ -63,7 +63,7 @@ pub fn leaves_in(
     root: PageId,
     range: KeyRange,
 ) -> Result<Items<PageId>, WantOfMemory>
-    requires { (roots : List ℕ) × (items : ℕ → List (List ℕ)) × Forest (pages_of store.now) roots items × Contains roots root }
+    requires { IsRoot (pages_of store.now) root }
     ensures { (roots : List ℕ) (items : ℕ → List (List ℕ)) → Forest (pages_of store.now) roots items → Contains roots root
         → IfOk result (λ leaves. HoldsRange (pages_of store.now) range.low range.high (items root) leaves) }
 {

@@ -5,6 +5,8 @@
 mod changing;
 mod finding;
 mod laws;
+#[cfg(test)]
+mod tests;
 
 pub use changing::{make_room, put, put_with_tree, take_out};
 pub use finding::{leaves_in, next_page};
