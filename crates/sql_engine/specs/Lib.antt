@@ -1,0 +1,4 @@
+pub mod Executed
+pub mod Made
+pub mod Read
+pub mod Sound

@@ -1,0 +1,91 @@
+ghost use Rattle.std.specs.Prelude.{◌≡◌, ◌≢◌, IfOk, IsErr, IsOk};
+ghost use Rattle.sql_exec.specs.Answer.{ComesFrom, IsEvaluated};
+ghost use Rattle.sql_exec.specs.Applied.{AnswersOver, Database};
+ghost use Rattle.sql_engine.specs.Executed.{Executes, MakesTable};
+
+use crate::making::{make_changes, make_table};
+use crate::naming::schemas_named;
+use crate::reading::read;
+use crate::store::{SpaceFull, TableStore};
+use rm_base::WantOfMemory;
+use sql_exec::{Changes, Outcome, SqlReply, eval};
+use sql_statements::Stmt;
+use std::alloc::Global;
+
+/// Runs one statement that is no BEGIN, COMMIT or ROLLBACK, and tells what the session is to be told. After
+/// want of memory and after `SpaceFull` nothing is said of the store's database.
+pub fn execute<T: TableStore>(
+    alloc: Global,
+    store: &mut T,
+    statement: &Stmt,
+) -> Result<SqlReply, WantOfMemory>
+    requires evaluated { IsEvaluated statement.now }
+    requires makes { MakesTable statement.now }
+    requires known { (d : Database) × T.tables store.old d }
+    ensures { (d : Database) → T.tables store.old d
+        → IfOk result (Executes d statement.now (T.tables store.new)) }
+{
+    match answered(alloc, store, statement)? {
+        Outcome::Rows(rows) => Ok(SqlReply::Rows(rows)),
+        Outcome::Refused(reply) => Ok(reply),
+        Outcome::Changes(changes) => make(alloc, store, statement, &changes),
+    }
+}
+
+/// What the statement answers over all rows. It reads those of its ranges alone.
+fn answered<T: TableStore>(
+    alloc: Global,
+    store: &T,
+    statement: &Stmt,
+) -> Result<Outcome, WantOfMemory>
+    requires evaluated { IsEvaluated statement.now }
+    requires known { (d : Database) × T.tables store.now d }
+    ensures { (d : Database) → T.tables store.now d
+        → IfOk result (ComesFrom (AnswersOver d statement.now)) }
+{
+    store.rules();
+    let schemas = schemas_named(alloc, store, statement)?;
+    let rows = read(alloc, store, statement, &schemas)?;
+    eval(alloc, statement, &schemas, &rows)
+}
+
+/// Makes the changes that the statement wants.
+fn make<T: TableStore>(
+    alloc: Global,
+    store: &mut T,
+    statement: &Stmt,
+    changes: &Changes,
+) -> Result<SqlReply, WantOfMemory>
+    requires makes { MakesTable statement.now }
+    requires wanted { (d : Database) × T.tables store.old d
+        × ComesFrom (AnswersOver d statement.now) (Outcome.Changes changes.now) }
+    ensures { (d : Database) → T.tables store.old d
+        → ComesFrom (AnswersOver d statement.now) (Outcome.Changes changes.now)
+        → IfOk result (Executes d statement.now (T.tables store.new)) }
+{
+    store.rules();
+    match statement {
+        Stmt::Create { schema } => Ok(told(make_table(alloc, store, schema)?, 0)),
+        Stmt::Insert { .. }
+        | Stmt::Update { .. }
+        | Stmt::Delete { .. }
+        | Stmt::Select(_)
+        | Stmt::Begin
+        | Stmt::Commit
+        | Stmt::Rollback => {
+            let made = make_changes(alloc, store, changes)?;
+            Ok(told(made, changes.len() as u64))
+        }
+    }
+}
+
+/// How many rows were changed, or that there was no room.
+fn told(made: Result<(), SpaceFull>, rows: u64) -> SqlReply
+    ensures ok { IsOk made → result ≡ SqlReply.Ok rows }
+    ensures full { IsErr made → result ≡ SqlReply.SpaceFull }
+{
+    match made {
+        Ok(()) => SqlReply::Ok(rows),
+        Err(SpaceFull) => SqlReply::SpaceFull,
+    }
+}
