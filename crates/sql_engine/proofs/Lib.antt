@@ -1,0 +1,5 @@
+pub mod InsertLemmas
+pub mod ListLemmas
+pub mod NamedLemmas
+pub mod ReadLemmas
+pub mod RangeLemmas

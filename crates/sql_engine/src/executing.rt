@@ -1,4 +1,4 @@
-ghost use Rattle.std.specs.Prelude.{◌≡◌, ◌≢◌, IfOk, IsErr, IsOk};
+ghost use Rattle.std.specs.Prelude.{◌≡◌, ◌≢◌, IfOk, IsErr, IsOk, OnOk};
 ghost use Rattle.sql_exec.specs.Answer.{ComesFrom, IsEvaluated};
 ghost use Rattle.sql_exec.specs.Applied.{AnswersOver, Database};
 ghost use Rattle.sql_engine.specs.Executed.{Executes, MakesTable};
@@ -12,8 +12,8 @@ use sql_exec::{Changes, Outcome, SqlReply, eval};
 use sql_statements::Stmt;
 use std::alloc::Global;
 
-/// Runs one statement that is no BEGIN, COMMIT or ROLLBACK, and tells what the session is to be told. After
-/// want of memory and after `SpaceFull` nothing is said of the store's database.
+/// Runs one statement that is no BEGIN, COMMIT or ROLLBACK, and gives what the session is to be told. After
+/// `SpaceFull` the store has only the database that it keeps, and after want of memory nothing is said of it.
 pub fn execute<T: TableStore>(
     alloc: Global,
     store: &mut T,
@@ -22,8 +22,9 @@ pub fn execute<T: TableStore>(
     requires evaluated { IsEvaluated statement.now }
     requires makes { MakesTable statement.now }
     requires known { (d : Database) × T.tables store.old d }
-    ensures { (d : Database) → T.tables store.old d
+    ensures executes { (d : Database) → T.tables store.old d
         → IfOk result (Executes d statement.now (T.tables store.new)) }
+    ensures keeps { (k : Database) → T.kept store.old k → OnOk result (T.kept store.new k) }
 {
     match answered(alloc, store, statement)? {
         Outcome::Rows(rows) => Ok(SqlReply::Rows(rows)),
@@ -59,9 +60,10 @@ fn make<T: TableStore>(
     requires makes { MakesTable statement.now }
     requires wanted { (d : Database) × T.tables store.old d
         × ComesFrom (AnswersOver d statement.now) (Outcome.Changes changes.now) }
-    ensures { (d : Database) → T.tables store.old d
+    ensures executes { (d : Database) → T.tables store.old d
         → ComesFrom (AnswersOver d statement.now) (Outcome.Changes changes.now)
         → IfOk result (Executes d statement.now (T.tables store.new)) }
+    ensures keeps { (k : Database) → T.kept store.old k → OnOk result (T.kept store.new k) }
 {
     store.rules();
     match statement {

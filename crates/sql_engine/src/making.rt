@@ -1,4 +1,4 @@
-ghost use Rattle.std.specs.Prelude.{◌≡◌, ◌≢◌, ◌∷◌, IfOk, IsErr, IsOk, None, [], fold, length};
+ghost use Rattle.std.specs.Prelude.{◌≡◌, ◌≢◌, ◌∷◌, IfOk, IsErr, IsOk, OnOk, None, [], fold, length};
 ghost use Rattle.std.specs.List.{AllByRecursion};
 ghost use Rattle.row_codec.specs.Records.{AreI64};
 ghost use Rattle.sql_catalog.specs.Catalog.{IsName, IsNamed};
@@ -21,8 +21,9 @@ pub fn make_table<T: TableStore>(
 ) -> Result<Result<(), SpaceFull>, WantOfMemory>
     requires new { IsNewTable schema.now }
     requires absent { (d : Database) × T.tables store.old d × (table_named d.schemas schema.now.table ≡ None) }
-    ensures { (d : Database) → T.tables store.old d → table_named d.schemas schema.now.table ≡ None
+    ensures made { (d : Database) → T.tables store.old d → table_named d.schemas schema.now.table ≡ None
         → IfOk result (λ a. IsOk a → T.tables store.new (with_table d schema.now)) }
+    ensures keeps { (k : Database) → T.kept store.old k → OnOk result (T.kept store.new k) }
 {
     read_names(schema);
     store.create(alloc, schema)
@@ -38,6 +39,7 @@ pub fn make_changes<T: TableStore>(
     ensures made { (d : Database) → T.tables store.old d → AllByRecursion (Suits d.schemas) changes.now
         → IfOk result (λ a. IsOk a → T.tables store.new (fold with_row d changes.now)) }
     ensures full { IfOk result (λ a. IsErr a → changes.now ≢ []) }
+    ensures keeps { (k : Database) → T.kept store.old k → OnOk result (T.kept store.new k) }
 {
     for change in changes.as_slice() {
         if let Err(full) = make_change(alloc, store, change)? {
@@ -53,8 +55,9 @@ fn make_change<T: TableStore>(
     change: &Change,
 ) -> Result<Result<(), SpaceFull>, WantOfMemory>
     requires { (d : Database) × T.tables store.old d × Suits d.schemas change.now }
-    ensures { (d : Database) → T.tables store.old d → Suits d.schemas change.now
+    ensures made { (d : Database) → T.tables store.old d → Suits d.schemas change.now
         → IfOk result (λ a. IsOk a → T.tables store.new (with_row d change.now)) }
+    ensures keeps { (k : Database) → T.kept store.old k → OnOk result (T.kept store.new k) }
 {
     if let Some(row) = &change.row {
         read_ints(row);

@@ -1,4 +1,4 @@
-ghost use Rattle.std.specs.Prelude.{◌≡◌, Some, IfOk, IsOk, filter};
+ghost use Rattle.std.specs.Prelude.{◌≡◌, Some, IfOk, IsOk, OnOk, filter};
 ghost use Rattle.row_codec.specs.Keys.{key_bytes};
 ghost use Rattle.row_codec.specs.Records.{key_cell};
 ghost use Rattle.sql_meaning.specs.Names.{table_named};
@@ -19,10 +19,13 @@ pub struct SpaceFull;
 
 /// Tables that statements read and change.
 ///
-/// `tables` says which database the store has, with the changes that it may yet give up. After want of
-/// memory or `SpaceFull` of a change nothing is said of the store but what its own type says.
+/// `tables` says which database the store has, with the changes that it may yet give up, and `kept` which
+/// one it has without them. After `SpaceFull` nothing is said of `tables`, and after want of memory of a
+/// change nothing at all.
 pub trait TableStore {
     ghost tables: { Self → Database → Type 0 };
+
+    ghost kept: { Self → Database → Type 0 };
 
     /// The schema of the table with that name, where there is one.
     fn schema(&self, alloc: Global, name: &Name) -> Result<Option<Schema>, WantOfMemory>
@@ -47,8 +50,9 @@ pub trait TableStore {
         schema: &Schema,
     ) -> Result<Result<(), SpaceFull>, WantOfMemory>
         requires { (d : Database) × tables self.old d × CanCreate d.schemas schema.now }
-        ensures { (d : Database) → tables self.old d → CanCreate d.schemas schema.now
-            → IfOk result (λ a. IsOk a → tables self.new (with_table d schema.now)) };
+        ensures made { (d : Database) → tables self.old d → CanCreate d.schemas schema.now
+            → IfOk result (λ a. IsOk a → tables self.new (with_table d schema.now)) }
+        ensures keeps { (k : Database) → kept self.old k → OnOk result (kept self.new k) };
 
     /// Makes the row stand under its key, or lets none stand there.
     fn change(
@@ -57,8 +61,9 @@ pub trait TableStore {
         change: &Change,
     ) -> Result<Result<(), SpaceFull>, WantOfMemory>
         requires { (d : Database) × tables self.old d × CanChange d.schemas change.now }
-        ensures { (d : Database) → tables self.old d → CanChange d.schemas change.now
-            → IfOk result (λ a. IsOk a → tables self.new (with_row d change.now)) };
+        ensures made { (d : Database) → tables self.old d → CanChange d.schemas change.now
+            → IfOk result (λ a. IsOk a → tables self.new (with_row d change.now)) }
+        ensures keeps { (k : Database) → kept self.old k → OnOk result (kept self.new k) };
 
     /// What holds of each database that the store has. It does nothing when it is run.
     fn rules(&self)
