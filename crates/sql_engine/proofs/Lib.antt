@@ -1,5 +1,7 @@
+pub mod FitLemmas
 pub mod InsertLemmas
 pub mod ListLemmas
 pub mod NamedLemmas
 pub mod ReadLemmas
+pub mod WantedLemmas
 pub mod RangeLemmas
