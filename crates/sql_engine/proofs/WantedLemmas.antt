@@ -1,5 +1,5 @@
 -- The changes that a statement wants can be made.
-use Rattle.std.proofs.Common.{◌≡◌, ◌≤◌, ℕ, Bool, true, false, ◌&&◌, if◌then◌else◌, List, [], ◌∷◌, ◌++◌, length, map, Option, Some, None, is_some, option_map, Result, Ok, Err, MatchOption, refl, sym, ap, subst, ◌∙◌, arith}
+use Rattle.std.proofs.Common.{◌≡◌, ◌≤◌, ℕ, ℤ, Bool, true, false, ◌&&◌, if◌then◌else◌, List, [], ◌∷◌, ◌++◌, length, map, Option, Some, None, is_some, option_map, Result, Ok, Err, MatchOption, refl, sym, ap, subst, ◌∙◌, arith}
 use Rattle.std.specs.List.{AllByRecursion, list_all, list_any}
 use Rattle.std.specs.Option.{option_map_or, option_or}
 use Rattle.std.proofs.lemmas.Bool.{leb-true}
@@ -19,21 +19,23 @@ use Rattle.sql_meaning.specs.declared.actions.Output.{Output}
 use Rattle.sql_meaning.specs.declared.actions.Output.TheVariants.{Star, Plain, Totals}
 use Rattle.sql_meaning.specs.declared.actions.SetPlace.{SetPlace}
 use Rattle.sql_meaning.specs.declared.refusals.Refusal.{Refusal}
-use Rattle.sql_meaning.specs.declared.refusals.Refusal.TheVariants.{NoColumn, WrongType}
+use Rattle.sql_meaning.specs.declared.refusals.Refusal.TheVariants.{NoColumn, TableExists, WrongType}
 use Rattle.sql_meaning.specs.declared.resolved.Resolved.{Resolved}
 use Rattle.sql_meaning.specs.Names.{scope, table_fields, table_named}
-use Rattle.sql_meaning.specs.Places.{placed_action, placed_set, placed_tuple}
+use Rattle.sql_meaning.specs.Places.{both_tests, placed_action, placed_on, placed_order, placed_output, placed_set, placed_test, placed_tuple}
 use Rattle.sql_meaning.specs.Refusals.{counts_match, fits_fields, has_right_types, is_condition, is_right, refusal, set_key, sets_right, table_refusal, unknown_column}
 use Rattle.sql_meaning.specs.Terms.{Term, term}
 use Rattle.sql_plan.proofs.NeededTests.{and_both}
 use Rattle.sql_exec.specs.declared.changes.Change.{Change}
 use Rattle.sql_exec.specs.declared.replies.SqlReply.{SqlReply}
 use Rattle.sql_exec.specs.declared.replies.SqlReply.TheVariants as reply
-use Rattle.sql_exec.specs.Answer.{Answer, Answers, Does, Gives, GivesKept, deletes, inserted, inserts, of_rows, on_target, placed_rows, refused, removed_rows, reply_of, row_or_overflow, rows, rows_or_overflow, updates, wanted, wants}
+use Rattle.sql_exec.specs.Answer.{Answer, Answers, Does, Gives, GivesKept, deletes, inserted, inserts, of_rows, on_target, placed_rows, refused, removed_rows, reply_of, row_or_overflow, rows, rows_or_overflow, source, target, updates, wanted, wants}
 use Rattle.sql_exec.specs.Applied.{AnswersOver, Database}
-use Rattle.sql_exec.specs.Changes.{first_repeat, fits_key, fits_record, keys_of, placing, removal}
+use Rattle.sql_exec.specs.Changes.{creation, first_repeat, fits_key, fits_record, keys_of, placing, removal}
 use Rattle.sql_exec.specs.Kept.{each, kept, set_all, values_in}
-use Rattle.sql_exec.specs.Totals.{is_null}
+use Rattle.sql_exec.specs.Database.{whole}
+use Rattle.sql_exec.specs.Order.{limited}
+use Rattle.sql_exec.specs.Totals.{is_null, total_of}
 use Rattle.sql_engine.specs.Made.{Suits}
 use Rattle.sql_engine.specs.Sound.{IsRow, IsSound}
 use Rattle.sql_engine.proofs.FitLemmas.{each_has, each_length, kept_rows, ok_is, set_rows_fit, tuples_fit}
@@ -127,3 +129,118 @@ delete_wanted : (schemas : List Schema) (v : Schema) → IsOf schemas v → (the
 delete_wanted schemas v named there test (Ok olds) cs n fit e g = removed_wanted schemas v named olds cs n (kept_rows (FitsSchema v) test there olds fit e) g
 delete_wanted schemas v named there test (Err x) cs n fit e g = absurd cc
 
+-- a SELECT wants no changes
+of_rows_none : (limit : Option ℤ) (r : Result (List (List Value)) Overflow) (cs : List Change) (n : ℕ) → wants cs n None ≡ rows_or_overflow limit r → ⊥
+of_rows_none limit (Ok rs) cs n h = cc
+of_rows_none limit (Err x) cs n h = cc
+
+of_row_none : (r : Result (List Value) Overflow) (cs : List Change) (n : ℕ) → wants cs n None ≡ row_or_overflow r → ⊥
+of_row_none (Ok r) cs n h = cc
+of_row_none (Err x) cs n h = cc
+
+gives_none : (output : Output) (order : List OrderPlace) (limit : Option ℤ) (rs : List (List Value)) (cs : List Change) (n : ℕ) → Gives output order limit rs (wants cs n None) → ⊥
+gives_none Star order limit rs cs n h = let e : wants cs n None ≡ rows (limited limit h.0) = h.2 in cc
+gives_none (Plain es) order limit rs cs n h = of_rows_none limit (each (λ r. values_in r es) h.0) cs n h.2
+gives_none (Totals ts) order limit rs cs n h = of_row_none (each (total_of rs) ts) cs n h
+
+select_none : (output : Output) (order : List OrderPlace) (limit : Option ℤ) (r : Result (List (List Value)) Overflow) (cs : List Change) (n : ℕ) → GivesKept output order limit r (wants cs n None) → ⊥
+select_none output order limit (Ok rs) cs n h = gives_none output order limit rs cs n h
+select_none output order limit (Err x) cs n h = cc
+
+-- the schema of the table that changes are wanted for, and what is wanted there
+record ForTarget (o : Option Schema) (f : Schema → Answer) (cs : List Change) (n : ℕ) : Type 0 where
+  schema : Schema
+  found : o ≡ Some schema
+  wanted_is : f schema ≡ wants cs n None
+
+for_target : (o : Option Schema) (f : Schema → Answer) (cs : List Change) (n : ℕ) → wants cs n None ≡ on_target o f → ForTarget o f cs n
+for_target None f cs n h = absurd cc
+for_target (Some v) f cs n h = record { schema = v; found = refl; wanted_is = sym h }
+
+right_types : (a b : Option Refusal) (c : Bool) → option_or a (option_or b (if c then None else Some WrongType)) ≡ None → c ≡ true
+right_types None None true h = refl
+right_types None None false h = absurd cc
+right_types None (Some b) c h = absurd cc
+right_types (Some a) b c h = absurd cc
+
+-- a statement that is not refused has operands of the right sorts
+is_right_one : (schemas : List Schema) (s : Stmt) → refusal schemas s ≡ None → is_right (scope schemas s) (set_key schemas s) (placed_action (scope schemas s) s) ≡ true
+unfolding has_right_types
+is_right_one schemas s h =
+    (and_both (counts_match (scope schemas s) s) (is_right (scope schemas s) (set_key schemas s) (placed_action (scope schemas s) s))
+    (right_types (table_refusal schemas s) (option_map NoColumn (unknown_column schemas s)) (has_right_types schemas s) h)).1
+
+is_own : (schemas : List Schema) (t : List ℕ) (v : Schema) → table_named schemas t ≡ Some v → IsOf schemas v
+is_own schemas t v e = ap (table_named schemas) (found_named schemas t v e) ∙ e
+
+rows_fit : (d : Database) → IsSound d → (t : List ℕ) (v : Schema) → table_named d.schemas t ≡ Some v → AllByRecursion (FitsSchema v) (d.tables t)
+rows_fit d sound t v e = all_weaker (IsRow v) (FitsSchema v) (λ r row. row.fits) (d.tables t) (sound.rows t v e)
+
+-- a statement that makes no table
+abbrev pub ChangesRows : Stmt → Type 0
+ChangesRows (stmt.Create s) = ⊥
+ChangesRows (stmt.Insert t names tuples) = Unit {0}
+ChangesRows (stmt.Update t sets test) = Unit {0}
+ChangesRows (stmt.Delete t test) = Unit {0}
+ChangesRows (stmt.Select q) = Unit {0}
+ChangesRows stmt.Begin = Unit {0}
+ChangesRows stmt.Commit = Unit {0}
+ChangesRows stmt.Rollback = Unit {0}
+
+does_want : (d : Database) → IsSound d → (s : Stmt) → ChangesRows s → (cs : List Change) (n : ℕ) → refusal d.schemas s ≡ None → Does (target d.schemas s) (source s (whole d.tables s)) (placed_action (scope d.schemas s) s) (wants cs n None) → AreWanted d.schemas cs n
+does_want d sound (stmt.Create s) changes cs n none h = absurd changes
+does_want d sound (stmt.Insert t names tuples) changes cs n none h =
+    let acts = map (placed_tuple (scope d.schemas (stmt.Insert t names tuples)) names) tuples in
+    let there = for_target (table_named d.schemas t) (λ v. inserts v (d.tables t) acts) cs n h in
+    insert_wanted d.schemas there.schema (is_own d.schemas t there.schema there.found) (d.tables t) acts (each (λ q. values_in [] q) acts) cs n
+    (subst (λ (o : Option Schema). list_all (fits_fields (option_map_or table_fields o [] ++ [])) acts ≡ true) there.found (is_right_one d.schemas (stmt.Insert t names tuples) none)) refl there.wanted_is
+does_want d sound (stmt.Update t sets test) changes cs n none h =
+    let acts = map (placed_set (scope d.schemas (stmt.Update t sets test))) sets in
+    let kept_by = option_map term (placed_test (scope d.schemas (stmt.Update t sets test)) test) in
+    let there = for_target (table_named d.schemas t) (λ v. updates v (d.tables t) acts (placed_test (scope d.schemas (stmt.Update t sets test)) test)) cs n h in
+    let right = (and_both (list_all (sets_right (scope d.schemas (stmt.Update t sets test)) (set_key d.schemas (stmt.Update t sets test))) acts) (is_condition (scope d.schemas (stmt.Update t sets test)) (placed_test (scope d.schemas (stmt.Update t sets test)) test)) (is_right_one d.schemas (stmt.Update t sets test) none)).0 in
+    update_wanted d.schemas there.schema (is_own d.schemas t there.schema there.found) (d.tables t) acts kept_by (kept kept_by (d.tables t)) cs n
+    (subst (λ (o : Option Schema). list_all (sets_right (option_map_or table_fields o [] ++ []) (option_map_or (λ (w : Schema). w.key) o 0)) acts ≡ true) there.found right)
+    (rows_fit d sound t there.schema there.found) refl there.wanted_is
+does_want d sound (stmt.Delete t test) changes cs n none h =
+    let kept_by = option_map term (placed_test (scope d.schemas (stmt.Delete t test)) test) in
+    let there = for_target (table_named d.schemas t) (λ v. deletes v (d.tables t) (placed_test (scope d.schemas (stmt.Delete t test)) test)) cs n h in
+    delete_wanted d.schemas there.schema (is_own d.schemas t there.schema there.found) (d.tables t) kept_by (kept kept_by (d.tables t)) cs n (rows_fit d sound t there.schema there.found) refl there.wanted_is
+does_want d sound (stmt.Select q) changes cs n none h =
+    let fields = scope d.schemas (stmt.Select q) in
+    let test = both_tests (placed_on fields q.join) (placed_test fields q.test) in
+    absurd (select_none (placed_output fields q.items) (map (placed_order fields) q.order) q.limit (kept (option_map term test) (source (stmt.Select q) (whole d.tables (stmt.Select q)))) cs n h)
+does_want d sound stmt.Begin changes cs n none h = absurd h
+does_want d sound stmt.Commit changes cs n none h = absurd h
+does_want d sound stmt.Rollback changes cs n none h = absurd h
+
+-- a statement that wants changes is not refused
+not_refused : (r : Option Refusal) (P : Type 0) (cs : List Change) (n : ℕ) → MatchOption r P (λ q. wants cs n None ≡ refused (reply_of q)) → (r ≡ None) × P
+not_refused None P cs n h = (refl, h)
+not_refused (Some q) P cs n h = absurd cc
+
+-- what a statement that makes no table wants
+pub rows_wanted : (d : Database) → IsSound d → (s : Stmt) → ChangesRows s → (cs : List Change) (n : ℕ) → AnswersOver d s (wants cs n None) → AreWanted d.schemas cs n
+rows_wanted d sound s changes cs n h =
+    let is = not_refused (refusal d.schemas s) (Does (target d.schemas s) (source s (whole d.tables s)) (placed_action (scope d.schemas s) s) (wants cs n None)) cs n h in
+    does_want d sound s changes cs n is.0 is.1
+
+-- a table that is wanted, which is not there, and the one change that makes it
+pub record IsTableWanted (schemas : List Schema) (s : Schema) (cs : List Change) (n : ℕ) : Type 0 where
+  pub absent : table_named schemas s.table ≡ None
+  pub changes : cs ≡ creation s ∷ []
+  pub many : n ≡ 0
+
+no_such : (o : Option Schema) (t : List ℕ) (more : Option Refusal) → option_or (option_or (if is_some o then Some (TableExists t) else None) None) more ≡ None → o ≡ None
+no_such None t more h = refl
+no_such (Some v) t more h = absurd cc
+
+pub table_wanted : (d : Database) (s : Schema) (cs : List Change) (n : ℕ) → AnswersOver d (stmt.Create s) (wants cs n None) → IsTableWanted d.schemas s cs n
+unfolding table_refusal
+table_wanted d s cs n h =
+    let is = not_refused (refusal d.schemas (stmt.Create s)) (Does (target d.schemas (stmt.Create s)) (source (stmt.Create s) (whole d.tables (stmt.Create s))) (placed_action (scope d.schemas (stmt.Create s)) (stmt.Create s)) (wants cs n None)) cs n h in
+    let wanted_it : wants cs n None ≡ wants (creation s ∷ []) 0 None = is.1 in record {
+      absent = no_such (table_named d.schemas s.table) s.table (option_or (option_map NoColumn (unknown_column d.schemas (stmt.Create s))) (if has_right_types d.schemas (stmt.Create s) then None else Some WrongType)) is.0;
+      changes = cc;
+      many = cc;
+    }
