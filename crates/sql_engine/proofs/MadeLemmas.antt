@@ -1,5 +1,5 @@
 -- A statement's outcome, and what its changes make, as what the statement does to the database.
-use Rattle.std.proofs.Common.{◌≡◌, ◌≢◌, ℕ, Bool, true, false, if◌then◌else◌, List, [], ◌∷◌, ◌++◌, length, codes, pos, flat_map, fold, Option, Some, None, refl, sym, ap, subst, ◌∙◌, inl, inr}
+use Rattle.std.proofs.Common.{◌≡◌, ◌≢◌, ℕ, Bool, true, false, if◌then◌else◌, List, [], ◌∷◌, ◌++◌, length, Result, Ok, Err, IsOk, IsErr, codes, pos, flat_map, fold, Option, Some, None, refl, sym, ap, subst, ◌∙◌, inl, inr}
 use Rattle.std.specs.List.{AllByRecursion}
 use Rattle.std.specs.Str.{bytes_eq}
 use Rattle.sql_values.specs.declared.values.Sort.{Sort}
@@ -151,3 +151,19 @@ wants_table d s cs IsAfter from =
         ends = inr (refl, λ e. let none : creation s ∷ [] ≡ [] = sym wanted.changes ∙ e in cc);
       };
     }
+
+-- what is told of changes that were made, or that found no room
+pub by_made : {A E : Type 0} (made : Result A E) (r ok : SqlReply) (Is : SqlReply → Type 0) → (IsOk made → r ≡ ok) → (IsErr made → r ≡ reply.SpaceFull) → (IsOk made → Is ok) → (IsErr made → Is reply.SpaceFull) → Is r
+by_made (Ok u) r ok Is f g p q = subst Is (sym (f refl)) (p refl)
+by_made (Err e) r ok Is f g p q = subst Is (sym (g refl)) (q refl)
+
+-- a statement that is no CREATE makes no table
+pub changes_rows : (s : Stmt) → ((x : Schema) → s ≡ stmt.Create x → ⊥) → ChangesRows s
+changes_rows (stmt.Create x) h = h x refl
+changes_rows (stmt.Insert t names tuples) h = tt
+changes_rows (stmt.Update t sets test) h = tt
+changes_rows (stmt.Delete t test) h = tt
+changes_rows (stmt.Select q) h = tt
+changes_rows stmt.Begin h = tt
+changes_rows stmt.Commit h = tt
+changes_rows stmt.Rollback h = tt

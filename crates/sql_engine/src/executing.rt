@@ -68,13 +68,7 @@ fn make<T: TableStore>(
     store.rules();
     match statement {
         Stmt::Create { schema } => Ok(told(make_table(alloc, store, schema)?, 0)),
-        Stmt::Insert { .. }
-        | Stmt::Update { .. }
-        | Stmt::Delete { .. }
-        | Stmt::Select(_)
-        | Stmt::Begin
-        | Stmt::Commit
-        | Stmt::Rollback => {
+        _ => {
             let made = make_changes(alloc, store, changes)?;
             Ok(told(made, changes.len() as u64))
         }
