@@ -1,5 +1,5 @@
 -- The rows that a statement places fit their tables.
-use Rattle.std.proofs.Common.{◌≡◌, ◌≢◌, ◌<◌, ◌≤◌, ℕ, zero, suc, Bool, true, false, ◌&&◌, ◌||◌, not, ◌==◌, if◌then◌else◌, List, [], ◌∷◌, ◌++◌, length, map, zip, slice_get, slice_set, Option, Some, None, option_map, Result, Ok, Err, IsSomeAnd, refl, sym, ap, subst, ◌∙◌, arith}
+use Rattle.std.proofs.Common.{◌≡◌, ◌≢◌, ℕ, zero, suc, Bool, true, false, ◌||◌, not, ◌==◌, List, [], ◌∷◌, ◌++◌, length, map, zip, slice_get, slice_set, Option, Some, Result, Ok, Err, refl, sym, ap, subst, ◌∙◌, arith}
 use Rattle.std.specs.List.{AllByRecursion, list_all, list_any}
 use Rattle.std.specs.Option.{option_map_or}
 use Rattle.std.proofs.lemmas.List.{append-nil, length-map}
@@ -10,7 +10,6 @@ use Rattle.sql_values.specs.declared.logic.Truth.TheVariants.{Yes, No, Unknown}
 use Rattle.sql_values.specs.declared.schemas.Column.{Column}
 use Rattle.sql_values.specs.declared.schemas.Schema.{Schema}
 use Rattle.sql_values.specs.declared.values.Value.{Value}
-use Rattle.sql_values.specs.declared.values.Value.TheVariants.{Null}
 use Rattle.sql_values.specs.Order.{Fits}
 use Rattle.row_codec.specs.Records.{FitColumns, FitsSchema, HasKey, key_cell}
 use Rattle.sql_meaning.specs.declared.fields.Field.{Field}
@@ -20,7 +19,6 @@ use Rattle.sql_meaning.specs.Evaluation.{test_in, value_in}
 use Rattle.sql_meaning.specs.Kinds.{takes}
 use Rattle.sql_meaning.specs.Names.{field_of, table_fields}
 use Rattle.sql_meaning.specs.Refusals.{fits_field, fits_fields, sets_right, suits}
-use Rattle.sql_meaning.specs.Sorts.{FitFields}
 use Rattle.sql_meaning.specs.Terms.{Term, term}
 use Rattle.sql_meaning.proofs.SortLaws.{suits_means_fits}
 use Rattle.sql_plan.proofs.NeededRows.{fit_fields}

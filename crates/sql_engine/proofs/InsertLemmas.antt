@@ -1,5 +1,5 @@
 -- An INSERT needs only to know which of its keys are there: rows that are read range after range tell it.
-use Rattle.std.proofs.Common.{◌≡◌, ◌≢◌, ℕ, Bool, true, false, ◌||◌, ◌&&◌, if◌then◌else◌, List, [], ◌∷◌, ◌++◌, map, length, Option, Some, None, Result, Ok, Err, refl, sym, ap, ◌∙◌}
+use Rattle.std.proofs.Common.{◌≡◌, ◌≢◌, ℕ, Bool, true, false, ◌||◌, ◌&&◌, if◌then◌else◌, List, [], ◌∷◌, ◌++◌, length, Some, Result, Ok, Err, refl, sym, ap, ◌∙◌}
 use Rattle.std.specs.Prelude.{filter, flat_map}
 use Rattle.std.specs.List.{AllByRecursion, list_any}
 use Rattle.std.proofs.lemmas.List.{map-append}
@@ -12,11 +12,11 @@ use Rattle.sql_values.specs.declared.values.Value.TheVariants.{Null}
 use Rattle.row_codec.specs.Keys.{key_bytes}
 use Rattle.row_codec.specs.Records.{key_cell}
 use Rattle.sql_meaning.specs.declared.resolved.Resolved.{Resolved}
-use Rattle.sql_meaning.specs.Ranges.{in_range, in_ranges, tuple_range}
+use Rattle.sql_meaning.specs.Ranges.{in_range, tuple_range}
 use Rattle.sql_exec.specs.declared.replies.SqlReply.TheVariants as reply
-use Rattle.sql_exec.specs.Answer.{Answer, inserted, inserts, of_rows, refused, wanted}
+use Rattle.sql_exec.specs.Answer.{inserted, inserts, of_rows, refused, wanted}
 use Rattle.sql_exec.specs.Changes.{first_repeat, is_same, keys_of, placing}
-use Rattle.sql_exec.specs.Database.{HasOtherKey, Tables}
+use Rattle.sql_exec.specs.Database.{Tables}
 use Rattle.sql_exec.specs.Kept.{each, values_in}
 use Rattle.sql_exec.specs.Totals.{is_null}
 use Rattle.sql_exec.proofs.InsertLaws.{outside_is_needless}
@@ -122,7 +122,7 @@ others_first key k ks q [] h = (tt, tt)
 others_first key k ks q (r ∷ rs) h =
     let more = others_first key k ks q rs h.1 in (
       (λ e. left_false (has_key key k r) (list_any (λ x. is_same x (key_cell key r)) ks) (h.0 e), more.0),
-      (λ e. right_false (has_key key k r) (list_any (λ x. is_same x (key_cell key r)) ks) (h.0 e), more.1)
+      (λ e. right_false (has_key key k r) (list_any (λ x. is_same x (key_cell key r)) ks) (h.0 e), more.1),
     )
 
 found_alike : (tables : Tables) (v : Schema) (rs : List KeyRange) (ks : List Value) → OthersHaveNone v.key ks (lies_in v rs) (tables v.table) → FindAlike (keys_of v.key (ranges_rows tables v rs)) (keys_of v.key (tables v.table)) ks

@@ -1,18 +1,16 @@
 -- A statement's outcome, and what its changes make, as what the statement does to the database.
-use Rattle.std.proofs.Common.{◌≡◌, ◌≢◌, ℕ, Bool, true, false, if◌then◌else◌, List, [], ◌∷◌, ◌++◌, length, Result, Ok, Err, IsOk, IsErr, codes, pos, flat_map, fold, Option, Some, None, refl, sym, ap, subst, ◌∙◌, inl, inr}
+use Rattle.std.proofs.Common.{◌≡◌, ◌≢◌, ℕ, Bool, true, false, if◌then◌else◌, List, [], ◌∷◌, length, Result, Ok, Err, IsOk, IsErr, codes, flat_map, fold, Some, None, refl, sym, ap, subst, ◌∙◌, inl, inr}
 use Rattle.std.specs.List.{AllByRecursion}
 use Rattle.std.specs.Str.{bytes_eq}
 use Rattle.sql_values.specs.declared.values.Sort.{Sort}
 use Rattle.sql_values.specs.declared.values.Sort.TheVariants as sort
 use Rattle.sql_values.specs.declared.values.Value.{Value}
-use Rattle.sql_values.specs.declared.values.Value.TheVariants.{Int, Text}
 use Rattle.sql_values.specs.declared.schemas.Column.{Column}
 use Rattle.sql_values.specs.declared.schemas.Schema.{Schema}
 use Rattle.sql_statements.specs.declared.statements.Stmt.{Stmt}
 use Rattle.sql_statements.specs.declared.statements.Stmt.TheVariants as stmt
 use Rattle.sql_meaning.specs.Names.{table_named}
 use Rattle.sql_exec.specs.declared.changes.Change.{Change}
-use Rattle.sql_exec.specs.declared.replies.Outcome.{Outcome}
 use Rattle.sql_exec.specs.declared.replies.Outcome.TheVariants as outcome
 use Rattle.sql_exec.specs.declared.replies.SqlReply.{SqlReply}
 use Rattle.sql_exec.specs.declared.replies.SqlReply.TheVariants as reply

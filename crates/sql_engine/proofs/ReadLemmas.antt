@@ -1,8 +1,7 @@
 -- The answer over the rows of a statement's ranges is the answer over all rows.
-use Rattle.std.proofs.Common.{◌≡◌, ◌≢◌, ℕ, Bool, true, false, if◌then◌else◌, List, [], ◌∷◌, ◌++◌, map, Option, Some, None, is_none, is_some, option_map, option_to_list, find, filter, flat_map, slice_get, slice_index_or, zero, suc, Ok, MatchOption, IsSomeAnd, refl, sym, ap, subst, ◌∙◌}
+use Rattle.std.proofs.Common.{◌≡◌, ◌≢◌, ℕ, false, if◌then◌else◌, List, [], ◌∷◌, ◌++◌, map, Option, Some, None, is_none, is_some, option_map, option_to_list, find, filter, flat_map, zero, suc, MatchOption, refl, sym, ap, subst, ◌∙◌}
 use Rattle.std.specs.List.{AllByRecursion}
 use Rattle.std.specs.Option.{option_map_or, option_or}
-use Rattle.rm_base.specs.declared.key_range.KeyRange.{KeyRange}
 use Rattle.sql_values.specs.declared.schemas.Schema.{Schema}
 use Rattle.sql_values.specs.declared.values.Value.{Value}
 use Rattle.sql_values.specs.declared.values.Value.TheVariants.{Null}
@@ -10,23 +9,21 @@ use Rattle.row_codec.specs.Records.{HasKey, key_cell}
 use Rattle.sql_statements.specs.declared.expressions.Expr.{Expr}
 use Rattle.sql_statements.specs.declared.statements.Join.{Join}
 use Rattle.sql_statements.specs.declared.statements.Select.{Select}
-use Rattle.sql_statements.specs.declared.statements.SetItem.{SetItem}
 use Rattle.sql_statements.specs.declared.statements.Stmt.{Stmt}
 use Rattle.sql_statements.specs.declared.statements.Stmt.TheVariants as stmt
-use Rattle.sql_meaning.specs.declared.actions.Action.{Action}
 use Rattle.sql_meaning.specs.declared.refusals.Refusal.{Refusal}
 use Rattle.sql_meaning.specs.declared.refusals.Refusal.TheVariants.{NoTable, NoColumn, WrongType}
 use Rattle.sql_meaning.specs.Names.{table_named, tables, scope}
 use Rattle.sql_meaning.specs.Places.{placed_action, placed_tuple}
-use Rattle.sql_meaning.specs.Ranges.{key_place, left_ranges, ranges, statement_test, tuple_range}
+use Rattle.sql_meaning.specs.Ranges.{left_ranges, ranges, statement_test, tuple_range}
 use Rattle.sql_meaning.specs.Refusals.{refusal, exists, first_missing, table_refusal, unknown_column, has_right_types}
-use Rattle.sql_plan.specs.Needed.{FailsTest, IsRowOf, LeavesOutNone, Sides, joined_tables, only_table}
+use Rattle.sql_plan.specs.Needed.{FailsTest, Sides, joined_tables, only_table}
 use Rattle.sql_plan.proofs.Needed.{leaves_out_none}
 use Rattle.sql_exec.specs.declared.replies.Outcome.{Outcome}
 use Rattle.sql_exec.specs.declared.rows.RangeRows.{RangeRows}
 use Rattle.sql_exec.specs.Answer.{Answer, Answers, ComesFrom, Does, inserts, on_target, refused, reply_of, source, target}
 use Rattle.sql_exec.specs.Applied.{AnswersOver, Database}
-use Rattle.sql_exec.specs.Database.{Each, HasNeeded, IsNeedless, Tables, Without, whole}
+use Rattle.sql_exec.specs.Database.{Each, HasNeeded, IsNeedless, Without, whole}
 use Rattle.sql_exec.specs.Kept.{pairs}
 use Rattle.sql_exec.proofs.RangeLaws.{filtered_is_without, joined_is_without}
 use Rattle.sql_exec.proofs.WholeLaws.{over_whole}
@@ -35,7 +32,7 @@ use Rattle.sql_engine.specs.Sound.{IsRow, IsSound}
 use Rattle.sql_engine.proofs.ListLemmas.{all_weaker}
 use Rattle.sql_engine.proofs.NamedLemmas.{SameNamed, answers_same, found_named}
 use Rattle.sql_engine.proofs.RangeLemmas.{IsSingle, delete_single, lies_in, map_alike, right_single, rows_are, select_single, update_single}
-use Rattle.sql_engine.proofs.InsertLemmas.{HaveKeys, inserts_alike}
+use Rattle.sql_engine.proofs.InsertLemmas.{inserts_alike}
 
 -- the schema of a table that is there
 pub record HasSchema (schemas : List Schema) (t : List ℕ) : Type 0 where

@@ -1,5 +1,5 @@
 -- The changes that a statement wants can be made.
-use Rattle.std.proofs.Common.{◌≡◌, ◌≤◌, ℕ, ℤ, Bool, true, false, ◌&&◌, if◌then◌else◌, List, [], ◌∷◌, ◌++◌, length, map, Option, Some, None, is_some, option_map, Result, Ok, Err, MatchOption, refl, sym, ap, subst, ◌∙◌, arith}
+use Rattle.std.proofs.Common.{◌≡◌, ℕ, ℤ, Bool, true, false, ◌&&◌, if◌then◌else◌, List, [], ◌∷◌, ◌++◌, length, map, Option, Some, None, is_some, option_map, Result, Ok, Err, MatchOption, refl, sym, ap, subst, ◌∙◌}
 use Rattle.std.specs.List.{AllByRecursion, list_all, list_any}
 use Rattle.std.specs.Option.{option_map_or, option_or}
 use Rattle.std.proofs.lemmas.Bool.{leb-true}
@@ -9,11 +9,8 @@ use Rattle.sql_values.specs.declared.values.Value.{Value}
 use Rattle.row_codec.specs.declared.TooLarge.{TooLarge}
 use Rattle.row_codec.specs.Keys.{key_bytes}
 use Rattle.row_codec.specs.Records.{FitsSchema, key_cell, record_length, value_bytes}
-use Rattle.sql_statements.specs.declared.expressions.Expr.{Expr}
-use Rattle.sql_statements.specs.declared.statements.Select.{Select}
 use Rattle.sql_statements.specs.declared.statements.Stmt.{Stmt}
 use Rattle.sql_statements.specs.declared.statements.Stmt.TheVariants as stmt
-use Rattle.sql_meaning.specs.declared.actions.Action.TheVariants as action
 use Rattle.sql_meaning.specs.declared.actions.OrderPlace.{OrderPlace}
 use Rattle.sql_meaning.specs.declared.actions.Output.{Output}
 use Rattle.sql_meaning.specs.declared.actions.Output.TheVariants.{Star, Plain, Totals}
@@ -27,9 +24,8 @@ use Rattle.sql_meaning.specs.Refusals.{counts_match, fits_fields, has_right_type
 use Rattle.sql_meaning.specs.Terms.{Term, term}
 use Rattle.sql_plan.proofs.NeededTests.{and_both}
 use Rattle.sql_exec.specs.declared.changes.Change.{Change}
-use Rattle.sql_exec.specs.declared.replies.SqlReply.{SqlReply}
 use Rattle.sql_exec.specs.declared.replies.SqlReply.TheVariants as reply
-use Rattle.sql_exec.specs.Answer.{Answer, Answers, Does, Gives, GivesKept, deletes, inserted, inserts, of_rows, on_target, placed_rows, refused, removed_rows, reply_of, row_or_overflow, rows, rows_or_overflow, source, target, updates, wanted, wants}
+use Rattle.sql_exec.specs.Answer.{Answer, Does, Gives, GivesKept, deletes, inserted, inserts, of_rows, on_target, placed_rows, refused, removed_rows, reply_of, row_or_overflow, rows, rows_or_overflow, source, target, updates, wanted, wants}
 use Rattle.sql_exec.specs.Applied.{AnswersOver, Database}
 use Rattle.sql_exec.specs.Changes.{creation, first_repeat, fits_key, fits_record, keys_of, placing, removal}
 use Rattle.sql_exec.specs.Kept.{each, kept, set_all, values_in}

@@ -1,5 +1,5 @@
 -- The changes that a statement wants, and what is known of them before their INTs are read.
-use Rattle.std.specs.Prelude.{◌≡◌, ◌≢◌, ◌⊎◌, ◌≤◌, ℕ, List, length, Option, Some, None}
+use Rattle.std.specs.Prelude.{◌≡◌, ◌≤◌, ℕ, List, length, Option, Some, None}
 use Rattle.sql_values.specs.declared.schemas.Schema.{Schema}
 use Rattle.sql_values.specs.declared.values.Value.{Value}
 use Rattle.row_codec.specs.declared.keys.TheConstants.{LONGEST_KEY}

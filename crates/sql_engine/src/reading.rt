@@ -32,8 +32,10 @@ pub fn read<T: TableStore>(
         Stmt::Update { table, .. } => read_only(alloc, store, statement, schemas, table),
         Stmt::Delete { table, .. } => read_only(alloc, store, statement, schemas, table),
         Stmt::Select(select) => read_selected(alloc, store, statement, schemas, select),
-        Stmt::Create { .. } | Stmt::Begin | Stmt::Commit | Stmt::Rollback =>
-            Ok(only(alloc, Rows::new(alloc))),
+        Stmt::Create { .. } | Stmt::Begin | Stmt::Commit | Stmt::Rollback => Ok(only(
+            alloc,
+            Rows::new(alloc),
+        )),
     }
 }
 
@@ -71,9 +73,9 @@ fn read_selected<T: TableStore>(
     requires { (d : Database) × T.tables store.now d × AreOf schemas.now d.schemas }
     ensures { (d : Database) → T.tables store.now d
         → IfOk result (λ r. r ≡ option_map_or
-            (λ j. spec.paired d.tables schemas.now statement.now j.right (spec.left_rows d.tables schemas.now statement.now select.now.left))
-            select.now.join
-            (spec.only (spec.left_rows d.tables schemas.now statement.now select.now.left))) }
+        (λ j. spec.paired d.tables schemas.now statement.now j.right (spec.left_rows d.tables schemas.now statement.now select.now.left))
+        select.now.join
+        (spec.only (spec.left_rows d.tables schemas.now statement.now select.now.left))) }
 {
     match &select.join {
         Some(join) => read_paired(alloc, store, statement, schemas, &select.left, &join.right),

@@ -32,12 +32,7 @@ pub trait TableStore {
         ensures { (d : Database) → tables self.now d → IfOk result (λ s. s ≡ table_named d.schemas name.now) };
 
     /// The rows of a table whose keys lie in the range, in the order of their keys.
-    fn rows(
-        &self,
-        alloc: Global,
-        table: &Schema,
-        range: &KeyRange,
-    ) -> Result<Rows, WantOfMemory>
+    fn rows(&self, alloc: Global, table: &Schema, range: &KeyRange) -> Result<Rows, WantOfMemory>
         requires { (d : Database) × tables self.now d
             × (table_named d.schemas table.now.table ≡ Some table.now) }
         ensures { (d : Database) → tables self.now d → IfOk result (λ rows.

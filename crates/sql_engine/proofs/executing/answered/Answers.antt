@@ -1,4 +1,4 @@
-use Rattle.std.proofs.Common.{◌≡◌, List, sym, subst}
+use Rattle.std.proofs.Common.{List, sym, subst}
 use Rattle.std.proofs.lemmas.Result.{IfOk-weaker}
 use Rattle.sql_values.specs.declared.schemas.Schema.{Schema}
 use Rattle.sql_exec.specs.declared.rows.RangeRows.{RangeRows}
@@ -13,7 +13,7 @@ read-requires g c =
     let d = c.requires.known.0 in (
       d,
       c.requires.known.1,
-      subst (λ (schemas : List Schema). AreOf schemas d.schemas) (sym (c.in_ok-schemas.ensures d c.requires.known.1)) (are_of d.schemas (mentioned c.args.statement.now))
+      subst (λ (schemas : List Schema). AreOf schemas d.schemas) (sym (c.in_ok-schemas.ensures d c.requires.known.1)) (are_of d.schemas (mentioned c.args.statement.now)),
     )
 
 pub returns : goal.returns

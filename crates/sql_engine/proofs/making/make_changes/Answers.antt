@@ -1,4 +1,4 @@
-use Rattle.std.proofs.Common.{◌<◌, length, List, arith, fold, take, Result, IsOk, refl, sym, ap, subst, ◌∙◌}
+use Rattle.std.proofs.Common.{List, arith, fold, take, Result, IsOk, refl, sym, subst}
 use Rattle.std.specs.List.{AllByRecursion}
 use Rattle.sql_values.specs.declared.schemas.Schema.{Schema}
 use Rattle.sql_exec.specs.declared.changes.Change.{Change}
@@ -17,7 +17,7 @@ make_change-requires g c =
     let here = all_here (Suits d.schemas) items c.loop-change.change-index c.change-item.result all (omega arith) c.change-item.is in (
       fold with_row d (take c.loop-change.change-index items),
       c.loop-change.invariant.made d c.requires.1 all,
-      subst (λ (schemas : List Schema). Suits schemas c.change-item.result) (sym (schemas_stay d (take c.loop-change.change-index items))) here
+      subst (λ (schemas : List Schema). Suits schemas c.change-item.result) (sym (schemas_stay d (take c.loop-change.change-index items))) here,
     )
 
 pub loop-change-preserved : goal.loop-change-preserved

@@ -1,4 +1,4 @@
-use Rattle.std.proofs.Common.{◌≡◌, ◌++◌, arith, sym, ap, ◌∙◌}
+use Rattle.std.proofs.Common.{◌++◌, arith, sym, ap, ◌∙◌}
 use Rattle.sql_engine.specs.Read.{range_rows}
 use Rattle.sql_engine.proofs.ListLemmas.{flat_front}
 use Rattle.sql_engine.proofs.reading.rows_in.Goals as goal
