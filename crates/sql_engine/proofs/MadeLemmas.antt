@@ -4,7 +4,6 @@ use Rattle.std.specs.List.{AllByRecursion}
 use Rattle.std.specs.Str.{bytes_eq}
 use Rattle.sql_values.specs.declared.values.Sort.{Sort}
 use Rattle.sql_values.specs.declared.values.Sort.TheVariants as sort
-use Rattle.sql_values.specs.declared.values.Value.{Value}
 use Rattle.sql_values.specs.declared.schemas.Column.{Column}
 use Rattle.sql_values.specs.declared.schemas.Schema.{Schema}
 use Rattle.sql_statements.specs.declared.statements.Stmt.{Stmt}
@@ -15,7 +14,7 @@ use Rattle.sql_exec.specs.declared.replies.Outcome.TheVariants as outcome
 use Rattle.sql_exec.specs.declared.replies.SqlReply.{SqlReply}
 use Rattle.sql_exec.specs.declared.replies.SqlReply.TheVariants as reply
 use Rattle.sql_exec.specs.Answer.{Answer, ComesFrom, outcome_of, refused, rows, wants}
-use Rattle.sql_exec.specs.Applied.{AnswersOver, Database, applied, changed, changes_of, columns_of, is_of_catalog, reply_to, schema_of, sort_of, with_catalog, with_row, with_table}
+use Rattle.sql_exec.specs.Applied.{AnswersOver, Database, applied, changed, columns_of, is_of_catalog, schema_of, sort_of, with_catalog, with_row, with_table}
 use Rattle.sql_exec.specs.Changes.{column_cells, creation, schema_row, sort_number}
 use Rattle.sql_engine.specs.Executed.{Executes}
 use Rattle.sql_engine.specs.Made.{Suits}
@@ -63,38 +62,6 @@ rows_applied d (c ∷ cs) all none = ap (λ e. applied e cs) (row_is d c all.0 n
 pub schemas_stay : (d : Database) (cs : List Change) → (fold with_row d cs).schemas ≡ d.schemas
 schemas_stay d [] = refl
 schemas_stay d (c ∷ cs) = schemas_stay (with_row d c) cs
-
--- what an answer is that gives an outcome
-record Tells (a : Answer) (r : SqlReply) : Type 0 where
-  told : r ≡ reply_to a
-  nothing : changes_of a ≡ []
-
-rows_told : (a : Answer) (rs : List (List Value)) → outcome.Rows rs ≡ outcome_of a → Tells a (reply.Rows rs)
-rows_told (rows xs) rs h = record { told = ap reply.Rows cc; nothing = refl }
-rows_told (refused r) rs h = absurd cc
-rows_told (wants cs n None) rs h = absurd cc
-rows_told (wants cs n (Some k)) rs h = absurd cc
-
-refusal_told : (a : Answer) (r : SqlReply) → outcome.Refused r ≡ outcome_of a → Tells a r
-refusal_told (rows xs) r h = absurd cc
-refusal_told (refused q) r h = record { told = cc; nothing = refl }
-refusal_told (wants cs n None) r h = absurd cc
-refusal_told (wants cs n (Some k)) r h = record { told = cc; nothing = refl }
-
-executes : (d : Database) (s : Stmt) (IsAfter : Database → Type 0) (a : Answer) (r : SqlReply) → AnswersOver d s a → Tells a r → IsAfter d → Executes d s IsAfter r
-executes d s IsAfter a r is tells after = record {
-  answer = a;
-  is = is;
-  ends = inl (tells.told, subst (λ (cs : List Change). IsAfter (applied d cs)) (sym tells.nothing) after);
-}
-
--- rows are told, and nothing is changed
-pub rows_executed : (d : Database) (s : Stmt) (IsAfter : Database → Type 0) (rs : List (List Value)) → ComesFrom (AnswersOver d s) (outcome.Rows rs) → IsAfter d → Executes d s IsAfter (reply.Rows rs)
-rows_executed d s IsAfter rs from after = executes d s IsAfter from.answer (reply.Rows rs) from.is (rows_told from.answer rs from.gives) after
-
--- a refusal is told, and nothing is changed
-pub refusal_executed : (d : Database) (s : Stmt) (IsAfter : Database → Type 0) (r : SqlReply) → ComesFrom (AnswersOver d s) (outcome.Refused r) → IsAfter d → Executes d s IsAfter r
-refusal_executed d s IsAfter r from after = executes d s IsAfter from.answer r from.is (refusal_told from.answer r from.gives) after
 
 -- changes come from an answer that wants them
 record AnswersChanges (d : Database) (s : Stmt) (cs : List Change) : Type 0 where

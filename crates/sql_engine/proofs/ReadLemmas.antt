@@ -78,10 +78,6 @@ needless schemas stmt.Begin row h = tt
 needless schemas stmt.Commit row h = tt
 needless schemas stmt.Rollback row h = tt
 
--- rows of a table, as they are known of a sound database
-abbrev AreRows : Database → List Schema → List ℕ → Schema → Type 0
-AreRows d schemas t v = AllByRecursion (IsRow v) (d.tables t)
-
 rows_known : (d : Database) (schemas : List Schema) → AreOf schemas d.schemas → IsSound d → (t : List ℕ) (v : Schema) → table_named schemas t ≡ Some v → AllByRecursion (IsRow v) (d.tables t)
 rows_known d schemas of_all sound t v e =
     subst (λ (n : List ℕ). AllByRecursion (IsRow v) (d.tables n)) (found_named schemas t v e) (sound.rows v.table v (of_all t v e))

@@ -27,7 +27,3 @@ pub record Executes (d : Database) (st : Stmt) (IsAfter : Database → Type 0) (
   pub ends :
       ((r ≡ reply_to answer) × IsAfter (applied d (changes_of answer)))
       ⊎ ((r ≡ reply.SpaceFull) × (changes_of answer ≢ []))
-
--- the changes of a statement were made, or found no room
-abbrev pub IsMade : SqlReply → Type 0 → SqlReply → Type 0
-IsMade done Made r = ((r ≡ done) × Made) ⊎ (r ≡ reply.SpaceFull)
