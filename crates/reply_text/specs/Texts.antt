@@ -1,0 +1,111 @@
+-- The texts of values, replies and entries.
+use Rattle.std.specs.Prelude.{◌≡◌, ◌<◌, ℕ, ◌+◌, Bool, true, false, if◌then◌else◌, List, [], ◌∷◌, ◌++◌, codes, decimal, length, flat_map, slice_index_or}
+use Rattle.std.specs.List.{AllByRecursion}
+use Rattle.std.specs.Fmt.{signed_decimal}
+use Rattle.sql_words.specs.Tokens.{quoted}
+use Rattle.sql_values.specs.declared.values.Value.{Value}
+use Rattle.sql_values.specs.declared.values.Value.TheVariants.{Null, Int, Text}
+use Rattle.sql_exec.specs.declared.replies.SqlReply.{SqlReply}
+use Rattle.sql_exec.specs.declared.replies.SqlReply.TheVariants as reply
+use Rattle.session_state.specs.declared.entries.Entry.{Entry}
+use Rattle.session_state.specs.declared.entries.Entry.TheVariants as entry
+
+-- NULL, a decimal number, or a text as SQL writes it
+abbrev pub value_text : Value → List ℕ
+value_text Null = codes "NULL"
+value_text (Int n) = signed_decimal n
+value_text (Text t) = quoted t
+
+abbrev pub behind_comma : Value → List ℕ
+behind_comma v = codes ", " ++ value_text v
+
+-- values with a comma and a space between
+abbrev pub row_text : List Value → List ℕ
+row_text [] = []
+row_text (v ∷ vs) = value_text v ++ flat_map behind_comma vs
+
+-- why a statement was not done, or how many rows it is
+unfoldable pub last_text : SqlReply → List ℕ
+last_text (reply.Ok n) = codes "ok " ++ decimal n
+last_text (reply.Rows rows) = codes "rows " ++ decimal (length rows)
+last_text (reply.Syntax at) = codes "error syntax at " ++ decimal at
+last_text (reply.NoTable t) = codes "error no table " ++ t
+last_text (reply.TableExists t) = codes "error table exists " ++ t
+last_text (reply.NoColumn c) = codes "error no column " ++ c
+last_text reply.WrongType = codes "error wrong type"
+last_text reply.NullKey = codes "error null key"
+last_text (reply.Duplicate v) = codes "error duplicate " ++ value_text v
+last_text reply.Overflow = codes "error overflow"
+last_text reply.TooLarge = codes "error too large"
+last_text reply.ReadOnly = codes "error read only"
+last_text reply.NoTransaction = codes "error no transaction"
+last_text reply.InTransaction = codes "error in transaction"
+last_text (reply.Conflict v) = codes "error conflict " ++ value_text v
+last_text reply.Lost = codes "error lost"
+last_text reply.Unavailable = codes "error unavailable"
+last_text (reply.PoolFull n) = codes "error pool full " ++ decimal n
+last_text reply.SpaceFull = codes "error space full"
+last_text reply.TrxFull = codes "error trx full"
+
+-- one output line, with what stands before each line of the reply
+abbrev pub line : List ℕ → List ℕ → List ℕ
+line before text = before ++ (text ++ 10 ∷ [])
+
+abbrev pub row_line : List ℕ → List Value → List ℕ
+row_line before row = line before (row_text row)
+
+abbrev pub last_line : List ℕ → SqlReply → List ℕ
+last_line before r = line before (last_text r)
+
+-- the rows that a reply has
+unfoldable pub rows_of : SqlReply → List (List Value)
+rows_of (reply.Rows rows) = rows
+rows_of _ = []
+
+-- a line for each row, and a last line
+abbrev pub reply_text : List ℕ → SqlReply → List ℕ
+reply_text before r = flat_map (row_line before) (rows_of r) ++ last_line before r
+
+-- the name of a session by its number
+abbrev pub name_of : List (List ℕ) → ℕ → List ℕ
+name_of names s = slice_index_or names s []
+
+-- what stands before each line of a session's reply: where names are asked for, its name
+abbrev pub before_of : List (List ℕ) → Bool → ℕ → List ℕ
+before_of names true s = name_of names s ++ codes ": "
+before_of names false s = []
+
+abbrev pub unanswered : List (List ℕ) → ℕ → List ℕ
+unanswered names s = line (name_of names s ++ codes ": ") (codes "unanswered")
+
+-- the text of an entry: replies, orders that were passed over, a node that takes the writes, and at the end,
+-- where names are asked for, the sessions that wait; other entries have none
+abbrev pub entry_text : List (List ℕ) → Bool → Entry → List ℕ
+entry_text names prefix (entry.Reply s r) = reply_text (before_of names prefix s) r
+entry_text names prefix (entry.Ignored n) = line [] (codes "ignored " ++ decimal n)
+entry_text names prefix (entry.Missed n) = line [] (codes "missed " ++ decimal n)
+entry_text names prefix (entry.Opened n) = line [] (codes "open n" ++ decimal (n + 1))
+entry_text names prefix (entry.End ss) = if prefix then flat_map (unanswered names) ss else []
+entry_text names prefix (entry.Join s name n) = []
+entry_text names prefix (entry.Submit s text) = []
+entry_text names prefix (entry.Snap s) = []
+entry_text names prefix (entry.Exec s) = []
+entry_text names prefix (entry.Enqueue s) = []
+entry_text names prefix entry.Settle = []
+entry_text names prefix (entry.Forget k) = []
+entry_text names prefix (entry.Timer s) = []
+entry_text names prefix (entry.Down n ss) = []
+entry_text names prefix (entry.Up n) = []
+
+-- the text of a journal: its entries' texts in order
+abbrev pub journal_text : List (List ℕ) → Bool → List Entry → List ℕ
+journal_text names prefix es = flat_map (entry_text names prefix) es
+
+-- the sessions whose names an entry's text has
+abbrev pub named_in : Bool → Entry → List ℕ
+named_in true (entry.Reply s r) = s ∷ []
+named_in true (entry.End ss) = ss
+named_in _ _ = []
+
+abbrev pub HasNames : List (List ℕ) → Bool → Entry → Type 0
+HasNames names prefix e = AllByRecursion (λ s. s < length names) (named_in prefix e)
