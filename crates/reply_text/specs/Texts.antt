@@ -1,5 +1,5 @@
 -- The texts of values, replies and entries.
-use Rattle.std.specs.Prelude.{◌≡◌, ◌<◌, ℕ, ◌+◌, Bool, true, false, if◌then◌else◌, List, [], ◌∷◌, ◌++◌, codes, decimal, length, flat_map, slice_index_or}
+use Rattle.std.specs.Prelude.{◌<◌, ℕ, ◌+◌, Bool, true, false, if◌then◌else◌, List, [], ◌∷◌, ◌++◌, codes, decimal, length, flat_map, slice_index_or}
 use Rattle.std.specs.List.{AllByRecursion}
 use Rattle.std.specs.Fmt.{signed_decimal}
 use Rattle.sql_words.specs.Tokens.{quoted}
@@ -24,28 +24,44 @@ abbrev pub row_text : List Value → List ℕ
 row_text [] = []
 row_text (v ∷ vs) = value_text v ++ flat_map behind_comma vs
 
--- why a statement was not done, or how many rows it is
-unfoldable pub last_text : SqlReply → List ℕ
-last_text (reply.Ok n) = codes "ok " ++ decimal n
-last_text (reply.Rows rows) = codes "rows " ++ decimal (length rows)
-last_text (reply.Syntax at) = codes "error syntax at " ++ decimal at
-last_text (reply.NoTable t) = codes "error no table " ++ t
-last_text (reply.TableExists t) = codes "error table exists " ++ t
-last_text (reply.NoColumn c) = codes "error no column " ++ c
-last_text reply.WrongType = codes "error wrong type"
-last_text reply.NullKey = codes "error null key"
-last_text (reply.Duplicate v) = codes "error duplicate " ++ value_text v
-last_text reply.Overflow = codes "error overflow"
-last_text reply.TooLarge = codes "error too large"
-last_text reply.ReadOnly = codes "error read only"
-last_text reply.NoTransaction = codes "error no transaction"
-last_text reply.InTransaction = codes "error in transaction"
-last_text (reply.Conflict v) = codes "error conflict " ++ value_text v
-last_text reply.Lost = codes "error lost"
-last_text reply.Unavailable = codes "error unavailable"
-last_text (reply.PoolFull n) = codes "error pool full " ++ decimal n
-last_text reply.SpaceFull = codes "error space full"
-last_text reply.TrxFull = codes "error trx full"
+-- the words that a reply's last line begins with
+unfoldable pub words_of : SqlReply → List ℕ
+words_of (reply.Ok n) = codes "ok "
+words_of (reply.Rows rows) = codes "rows "
+words_of (reply.Syntax at) = codes "error syntax at "
+words_of (reply.NoTable t) = codes "error no table "
+words_of (reply.TableExists t) = codes "error table exists "
+words_of (reply.NoColumn c) = codes "error no column "
+words_of reply.WrongType = codes "error wrong type"
+words_of reply.NullKey = codes "error null key"
+words_of (reply.Duplicate v) = codes "error duplicate "
+words_of reply.Overflow = codes "error overflow"
+words_of reply.TooLarge = codes "error too large"
+words_of reply.ReadOnly = codes "error read only"
+words_of reply.NoTransaction = codes "error no transaction"
+words_of reply.InTransaction = codes "error in transaction"
+words_of (reply.Conflict v) = codes "error conflict "
+words_of reply.Lost = codes "error lost"
+words_of reply.Unavailable = codes "error unavailable"
+words_of (reply.PoolFull n) = codes "error pool full "
+words_of reply.SpaceFull = codes "error space full"
+words_of reply.TrxFull = codes "error trx full"
+
+-- what stands behind the words: a number, a name or a value
+unfoldable pub rest_of : SqlReply → List ℕ
+rest_of (reply.Ok n) = decimal n
+rest_of (reply.Rows rows) = decimal (length rows)
+rest_of (reply.Syntax at) = decimal at
+rest_of (reply.NoTable t) = t
+rest_of (reply.TableExists t) = t
+rest_of (reply.NoColumn c) = c
+rest_of (reply.Duplicate v) = value_text v
+rest_of (reply.Conflict v) = value_text v
+rest_of (reply.PoolFull n) = decimal n
+rest_of _ = []
+
+abbrev pub last_text : SqlReply → List ℕ
+last_text r = words_of r ++ rest_of r
 
 -- one output line, with what stands before each line of the reply
 abbrev pub line : List ℕ → List ℕ → List ℕ

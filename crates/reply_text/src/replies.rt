@@ -5,10 +5,16 @@ ghost use Rattle.reply_text.specs.Texts as spec;
 use crate::values::{append_row, append_value};
 use rm_base::{Text, WantOfMemory};
 use sql_exec::SqlReply;
-use sql_values::{Row, Value};
+use sql_values::Row;
 use std::alloc::Global;
 
 const LINE_END: u8 = b'\n';
+
+fn append_decimal(alloc: Global, out: &mut Text, number: u64) -> Result<(), WantOfMemory>
+    ensures { OnOk result (out.new ≡ out.old ++ decimal number) }
+{
+    out.append(format!(in alloc; "{number}")?.as_bytes())
+}
 
 /// Words, and a number behind them.
 pub(crate) fn append_number(
@@ -20,56 +26,60 @@ pub(crate) fn append_number(
     ensures { OnOk result (out.new ≡ out.old ++ (words.now ++ decimal number)) }
 {
     out.append(words)?;
-    out.append(format!(in alloc; "{number}")?.as_bytes())
+    append_decimal(alloc, out, number)
 }
 
-fn append_both(out: &mut Text, words: &[u8], name: &[u8]) -> Result<(), WantOfMemory>
-    ensures { OnOk result (out.new ≡ out.old ++ (words.now ++ name.now)) }
+/// The words that a reply's last line begins with.
+#[tactic(auto, unfolding(crate::specs::Texts::words_of))]
+fn words_of(reply: &SqlReply) -> &'static [u8]
+    ensures { result.now ≡ spec.words_of reply.now }
 {
-    out.append(words)?;
-    out.append(name)
+    match reply {
+        SqlReply::Ok(_) => b"ok ",
+        SqlReply::Rows(_) => b"rows ",
+        SqlReply::Syntax(_) => b"error syntax at ",
+        SqlReply::NoTable(_) => b"error no table ",
+        SqlReply::TableExists(_) => b"error table exists ",
+        SqlReply::NoColumn(_) => b"error no column ",
+        SqlReply::WrongType => b"error wrong type",
+        SqlReply::NullKey => b"error null key",
+        SqlReply::Duplicate(_) => b"error duplicate ",
+        SqlReply::Overflow => b"error overflow",
+        SqlReply::TooLarge => b"error too large",
+        SqlReply::ReadOnly => b"error read only",
+        SqlReply::NoTransaction => b"error no transaction",
+        SqlReply::InTransaction => b"error in transaction",
+        SqlReply::Conflict(_) => b"error conflict ",
+        SqlReply::Lost => b"error lost",
+        SqlReply::Unavailable => b"error unavailable",
+        SqlReply::PoolFull(_) => b"error pool full ",
+        SqlReply::SpaceFull => b"error space full",
+        SqlReply::TrxFull => b"error trx full",
+    }
 }
 
-fn append_words_and_value(
-    alloc: Global,
-    out: &mut Text,
-    words: &[u8],
-    value: &Value,
-) -> Result<(), WantOfMemory>
-    ensures { OnOk result (out.new ≡ out.old ++ (words.now ++ spec.value_text value.now)) }
+/// The number, name or value behind the words.
+#[tactic(auto, unfolding(crate::specs::Texts::rest_of))]
+fn append_rest(alloc: Global, out: &mut Text, reply: &SqlReply) -> Result<(), WantOfMemory>
+    ensures { OnOk result (out.new ≡ out.old ++ spec.rest_of reply.now) }
 {
-    out.append(words)?;
-    append_value(alloc, out, value)
+    match reply {
+        SqlReply::Ok(n) => append_decimal(alloc, out, *n),
+        SqlReply::Rows(rows) => append_decimal(alloc, out, rows.len() as u64),
+        SqlReply::Syntax(at) => append_decimal(alloc, out, *at as u64),
+        SqlReply::NoTable(table) | SqlReply::TableExists(table) => out.append(table.as_slice()),
+        SqlReply::NoColumn(column) => out.append(column.as_slice()),
+        SqlReply::Duplicate(key) | SqlReply::Conflict(key) => append_value(alloc, out, key),
+        SqlReply::PoolFull(slots) => append_decimal(alloc, out, u64::from(*slots)),
+        _ => Ok(()),
+    }
 }
 
-#[tactic(auto, unfolding(crate::specs::Texts::last_text))]
 fn append_last(alloc: Global, out: &mut Text, reply: &SqlReply) -> Result<(), WantOfMemory>
     ensures { OnOk result (out.new ≡ out.old ++ spec.last_text reply.now) }
 {
-    match reply {
-        SqlReply::Ok(n) => append_number(alloc, out, b"ok ", *n),
-        SqlReply::Rows(rows) => append_number(alloc, out, b"rows ", rows.len() as u64),
-        SqlReply::Syntax(at) => append_number(alloc, out, b"error syntax at ", *at as u64),
-        SqlReply::NoTable(table) => append_both(out, b"error no table ", table.as_slice()),
-        SqlReply::TableExists(table) => append_both(out, b"error table exists ", table.as_slice()),
-        SqlReply::NoColumn(column) => append_both(out, b"error no column ", column.as_slice()),
-        SqlReply::WrongType => out.append(b"error wrong type"),
-        SqlReply::NullKey => out.append(b"error null key"),
-        SqlReply::Duplicate(key) => append_words_and_value(alloc, out, b"error duplicate ", key),
-        SqlReply::Overflow => out.append(b"error overflow"),
-        SqlReply::TooLarge => out.append(b"error too large"),
-        SqlReply::ReadOnly => out.append(b"error read only"),
-        SqlReply::NoTransaction => out.append(b"error no transaction"),
-        SqlReply::InTransaction => out.append(b"error in transaction"),
-        SqlReply::Conflict(key) => append_words_and_value(alloc, out, b"error conflict ", key),
-        SqlReply::Lost => out.append(b"error lost"),
-        SqlReply::Unavailable => out.append(b"error unavailable"),
-        SqlReply::PoolFull(slots) => {
-            append_number(alloc, out, b"error pool full ", u64::from(*slots))
-        }
-        SqlReply::SpaceFull => out.append(b"error space full"),
-        SqlReply::TrxFull => out.append(b"error trx full"),
-    }
+    out.append(words_of(reply))?;
+    append_rest(alloc, out, reply)
 }
 
 /// A row's line, with what stands before it. The line ends in LF.

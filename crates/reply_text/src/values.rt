@@ -19,7 +19,6 @@ fn append_doubled(out: &mut Text, byte: u8) -> Result<(), WantOfMemory>
     out.push(byte)
 }
 
-#[tactic(auto, using(crate::proofs::TextLaws::doubled_each))]
 fn append_content(out: &mut Text, bytes: &[u8]) -> Result<(), WantOfMemory>
     ensures { OnOk result (out.new ≡ out.old ++ doubled bytes.now) }
 {
