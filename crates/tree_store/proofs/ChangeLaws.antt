@@ -1,6 +1,6 @@
 -- What the groups of plans do to the trees of a store.
-use Rattle.std.proofs.Common.{◌≡◌, ◌<◌, ◌≤◌, ◌+◌, ℕ, List, [], ◌∷◌, ◌++◌, length, Option, Some, None, IsNone, Result, Ok, refl, sym, ap, subst, ◌∙◌, arith}
-use Rattle.std.specs.Prelude.{Contains, IfSome, IfOk}
+use Rattle.std.proofs.Common.{◌≡◌, ◌<◌, ◌≤◌, ◌+◌, ℕ, List, [], ◌∷◌, ◌++◌, length, Option, Some, None, IsNone, Result, Ok, Err, true, false, refl, sym, ap, subst, ◌∙◌, arith}
+use Rattle.std.specs.Prelude.{Contains, IfSome, IfOk, IsOk, ◌↔◌}
 use Rattle.page_image.specs.Image.{Image}
 use Rattle.redo_record.specs.declared.redo.Record.{Record}
 use Rattle.redo_record.specs.declared.plans.Plan.{Plan}
@@ -87,3 +87,11 @@ pub grew : {A B : Type 0} (o : Result (Option A) B) (found : Option A) (P : Type
 grew {A = A} {B = B} o found P h e q =
     let one : IsNone found → P = subst (λ (r : Result (Option A) B). IfOk r (λ x. IsNone x → P)) e h in
     subst (λ (x : Option A). IsNone x → P) q one refl
+
+-- a refusal says that there is no space
+pub refused : {A B : Type 0} (o : Option (Result A B)) (r : Result A B) (no_plan : B) (Space : Type 0) → IfSome o (λ a. IsOk a ↔ Space) → o ≡ Some r → r ≡ Err no_plan → Space → ⊥
+refused {A = A} {B = B} o r no_plan Space h e q space =
+    let one : IsOk r ↔ Space = subst (λ (x : Option (Result A B)). IfSome x (λ a. IsOk a ↔ Space)) e h in
+    let two : IsOk {T = A} {E = B} (Err no_plan) ↔ Space = subst (λ (x : Result A B). IsOk x ↔ Space) q one in
+    let f : false ≡ true = two.1 space in
+    cc

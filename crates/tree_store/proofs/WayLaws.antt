@@ -1,6 +1,8 @@
 -- A descent over the pages of a tree, on its way.
-use Rattle.std.proofs.Common.{◌≡◌, ◌≢◌, ◌≤◌, ◌<◌, ◌-◌, ℕ, zero, suc, false, List, [], ◌∷◌, ◌++◌, length, map, Option, Some, None, refl, sym, ap, subst, ◌∙◌, arith}
+use Rattle.std.proofs.Common.{◌≡◌, ◌≢◌, ◌≤◌, ◌<◌, ◌+◌, ◌-◌, ℕ, zero, suc, Bool, true, false, List, [], ◌∷◌, ◌++◌, length, map, Option, Some, None, refl, sym, ap, subst, ◌∙◌, arith, inl, inr}
+use Rattle.std.specs.Prelude.{◌⊎◌}
 use Rattle.std.proofs.lemmas.List.{append_assoc, append-nil, map-append}
+use Rattle.std.proofs.lemmas.Bool.{cases_lt}
 use Rattle.std.proofs.lemmas.Bool.Decides.{nat_tests}
 use Rattle.page_image.specs.declared.kind.Kind.TheVariants as kind
 use Rattle.page_image.specs.Image.{Image, is_inner}
@@ -10,11 +12,12 @@ use Rattle.bplus_tree.specs.Tree.{Tree, Stands, Way}
 use Rattle.bplus_tree.specs.Walk.{Walking, start, Told, Answers, Runs}
 use Rattle.bplus_tree.specs.Found.{FindsLeaf}
 use Rattle.tree_change.specs.Way.{IsWayTo}
-use Rattle.tree_change.specs.Places.{leaf_on}
+use Rattle.tree_change.specs.Places.{page_on, leaf_on}
 use Rattle.tree_change.specs.Room.{size_of, room_for, lacks_room}
-use Rattle.tree_change.specs.Splits.{HaveRoom}
+use Rattle.tree_change.specs.Splits.{HaveRoom, SpaceFor, count_of}
 use Rattle.tree_change.proofs.WayLaws.{leaf_rows, some_pages}
-use Rattle.tree_store.specs.Forest.{IsWayIn}
+use Rattle.tree_change.proofs.RootTree.{root_is}
+use Rattle.tree_store.specs.Forest.{IsWayIn, IsFull}
 
 -- ---- the level of a tree is that of its root
 
@@ -92,6 +95,29 @@ end_of pages root key path w items tree done (t ∷ ts) leaf leads read r none =
 
 pub way_ends : (pages : ℕ → Image) (root : ℕ) (key : List ℕ) (path : List Image) (w : Walking) → OnWay pages root key path w → ((p : ℕ) → w.want ≢ Need p) → IsWayIn pages root key path
 way_ends pages root key path w o none = end_of pages root key path w o.items o.tree o.done o.todo o.leaf o.leads o.read o.runs none
+
+-- ---- no space
+
+no_space : (b : Bool) (root : Image) (count : ℕ) → ¬ SpaceFor b root count → (32768 ≤ count + 1) ⊎ (8 ≤ root.level)
+no_space true root count h =
+    elim (cases_lt root.level 8) [
+      | inl low ↦ elim (cases_lt count 32767) [ inl less ↦ absurd (h (low, omega arith)) | inr more ↦ inl (omega arith) ]
+      | inr high ↦ inr high
+    ]
+no_space false root count h = elim (cases_lt count 32768) [ inl less ↦ absurd (h (omega arith)) | inr more ↦ inl (omega arith) ]
+
+pub full_from : (pages : ℕ → Image) (item : LeafItem) (key : List ℕ) (path : List Image) (w : IsWayTo key path) (meta : Image) → w.pages ≡ pages → meta ≡ pages 0
+    → ¬ SpaceFor (lacks_room item (page_on path 0)) (page_on path 0) (count_of meta) → IsFull pages w.root
+full_from pages item key path w meta same e h =
+    let root = root_is key path w ∙ ap (λ (ps : ℕ → Image). ps w.root) same in
+    let level = ap (λ (o : Image). o.level) root in
+    let count = ap count_of e in
+    let full = no_space (lacks_room item (page_on path 0)) (page_on path 0) (count_of meta) h in
+    moved full level count
+  where
+    moved : (32768 ≤ count_of meta + 1) ⊎ (8 ≤ (page_on path 0).level) → (page_on path 0).level ≡ (pages w.root).level → count_of meta ≡ count_of (pages 0) → IsFull pages w.root
+    moved (inl few) level count = inl (omega arith)
+    moved (inr high) level count = inr (omega arith)
 
 -- ---- room on the leaf
 

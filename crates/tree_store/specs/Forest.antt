@@ -1,7 +1,8 @@
 -- Trees that stand side by side on the pages of one store.
-use Rattle.std.specs.Prelude.{◌≡◌, ◌≤◌, ℕ, List, map, Contains, nat_eq, if◌then◌else◌}
+use Rattle.std.specs.Prelude.{◌≡◌, ◌≤◌, ◌+◌, ◌⊎◌, ℕ, List, map, Contains, nat_eq, if◌then◌else◌}
 use Rattle.page_image.specs.Image.{Image, unmade}
 use Rattle.page_view.specs.declared.leaf.LeafItem.{LeafItem}
+use Rattle.bplus_tree.specs.declared.want.TheConstants.{HIGHEST_LEVEL}
 use Rattle.bplus_tree.specs.Tree.{Tree, Way}
 use Rattle.tree_change.specs.Places.{leaf_on}
 use Rattle.tree_change.specs.Room.{size_of, room_for}
@@ -28,6 +29,10 @@ pub record Forest (pages : ℕ → Image) (roots : List ℕ) (items : ℕ → Li
 -- one of the trees stands at the root
 abbrev pub IsRoot : (ℕ → Image) → ℕ → Type 0
 IsRoot pages root = (roots : List ℕ) × (items : ℕ → List (List ℕ)) × Forest pages roots items × Contains roots root
+
+-- at most one page is left, or the root is as high as there are levels
+abbrev pub IsFull : (ℕ → Image) → ℕ → Type 0
+IsFull pages root = (MOST_PAGES ≤ count_of (pages 0) + 1) ⊎ (HIGHEST_LEVEL ≤ (pages root).level)
 
 -- the items of the trees, where the one at the root has new ones
 abbrev pub with_tree : (ℕ → List (List ℕ)) → ℕ → List (List ℕ) → ℕ → List (List ℕ)

@@ -5,7 +5,7 @@ ghost use Rattle.page_view.specs.Leaf.{IsLeaf, leaf_bytes};
 ghost use Rattle.page_store.specs.Stored.{pages_of, with_group};
 ghost use Rattle.tree_change.specs.Splits.{count_of};
 ghost use Rattle.tree_change.specs.Effects.{MakeGroup, with_item, without_item};
-ghost use Rattle.tree_store.specs.Forest.{Forest, IsRoot, HasRoom, with_tree};
+ghost use Rattle.tree_store.specs.Forest.{Forest, IsRoot, IsFull, HasRoom, with_tree};
 
 use crate::finding::{meta_page, way};
 use page_store::PageStore;
@@ -39,6 +39,7 @@ fn split_or_way(
     ensures way { IfOk result (λ answer. IfOk answer (λ found. IfSome found (HasRoom (pages_of store.new) root item.now))) }
     ensures more { IfOk result (λ answer. IfOk answer (λ found. IsNone found → count_of (pages_of store.old 0) < count_of (pages_of store.new 0))) }
     ensures no { IfOk result (λ answer. IfErr answer (λ no. no ≡ TreeNo.SpaceFull)) }
+    ensures full { IfOk result (λ answer. OnErr answer (IsFull (pages_of store.new) root)) }
     ensures kept { OnOk result (store.new.kept ≡ store.old.kept) }
 {
     let path = way(alloc, store, root, item.key.as_slice())?;
@@ -67,6 +68,7 @@ pub fn make_room(
         → OnOk result (Forest (pages_of store.new) roots items) }
     ensures room { IfOk result (λ answer. IfOk answer (HasRoom (pages_of store.new) root item.now)) }
     ensures no { IfOk result (λ answer. IfErr answer (λ no. no ≡ TreeNo.SpaceFull)) }
+    ensures full { IfOk result (λ answer. OnErr answer (IsFull (pages_of store.new) root)) }
     ensures kept { OnOk result (store.new.kept ≡ store.old.kept) }
 {
     loop {
@@ -111,6 +113,7 @@ pub fn put(
     ensures stays { (roots : List ℕ) (items : ℕ → List (List ℕ)) → Forest (pages_of store.old) roots items → Contains roots root
         → IfOk result (λ answer. OnErr answer (Forest (pages_of store.new) roots items)) }
     ensures no { IfOk result (λ answer. IfErr answer (λ no. no ≡ TreeNo.SpaceFull)) }
+    ensures full { IfOk result (λ answer. OnErr answer (IsFull (pages_of store.new) root)) }
     ensures kept { OnOk result (store.new.kept ≡ store.old.kept) }
 {
     match make_room(alloc, store, root, item)? {
@@ -174,6 +177,7 @@ pub fn take_out(
     ensures stays { (roots : List ℕ) (items : ℕ → List (List ℕ)) → Forest (pages_of store.old) roots items → Contains roots root
         → IfOk result (λ answer. OnErr answer (Forest (pages_of store.new) roots items)) }
     ensures no { IfOk result (λ answer. IfErr answer (λ no. no ≡ TreeNo.SpaceFull)) }
+    ensures full { IfOk result (λ answer. OnErr answer (IsFull (pages_of store.new) root)) }
     ensures kept { OnOk result (store.new.kept ≡ store.old.kept) }
 {
     let item = item_of(alloc, key)?;

@@ -4,12 +4,14 @@ use Rattle.page_image.specs.Image.{Image}
 use Rattle.redo_record.specs.declared.plans.Plan.{Plan}
 use Rattle.redo_record.specs.declared.plans.TreeNo.{TreeNo}
 use Rattle.page_store.specs.Stored.{pages_of}
-use Rattle.tree_change.specs.Splits.{HaveRoom}
+use Rattle.tree_change.specs.Places.{page_on}
+use Rattle.tree_change.specs.Room.{lacks_room}
+use Rattle.tree_change.specs.Splits.{HaveRoom, SpaceFor, count_of}
 use Rattle.tree_change.specs.Effects.{Keeps}
 use Rattle.tree_store.specs.Forest.{Forest, IsWayIn, HasRoom}
 use Rattle.tree_store.proofs.ForestLaws.{way_to}
-use Rattle.tree_store.proofs.WayLaws.{room_on}
-use Rattle.tree_store.proofs.ChangeLaws.{kept_applies, ran_kept, ran_more, planned}
+use Rattle.tree_store.proofs.WayLaws.{room_on, full_from}
+use Rattle.tree_store.proofs.ChangeLaws.{kept_applies, ran_kept, ran_more, planned, refused}
 use Rattle.tree_store.proofs.changing.split_or_way.Goals as goal
 
 pub plan_room-requires-clause-way : goal.plan_room-requires-clause-way
@@ -66,3 +68,16 @@ returns-in-Some-Ok-clause-more c =
     subst (λ (m : Image). Keeps key path m plan) c.meta_page.ensures
     (planned c.in_ok-plan_room.field-0 c.in-Some-Ok.field-0 plan (λ p. Keeps key path c.meta_page.result.now p) c.in_ok-plan_room.ensures.keeps c.in-Some-Ok.is c.in-Some-Ok.field-0-is) in
     λ _. ran_more c.args.store.now c.run_plan.new.store f.0 f.1 f.2 c.args.root f.3 key path v plan keeps c.in_ok-run_plan-in-Some-Ok.ensures
+
+pub returns-clause-full : goal.returns-clause-full
+returns-clause-full c =
+    let f = c.requires.forest in
+    let ps = pages_of c.args.store.now in
+    let item = c.args.item.now in
+    let path = c.in_ok-path.path in
+    let meta = c.meta_page.result.now in
+    let v : IsWayIn ps c.args.root item.key path = subst (λ (k : List ℕ). IsWayIn ps c.args.root k path) c.as_slice.ensures c.in_ok-path.ensures in
+    let none : ¬ SpaceFor (lacks_room item (page_on path 0)) (page_on path 0) (count_of meta) =
+    refused c.in_ok-plan_room.field-0 c.in-Some-Err.field-0 c.in-Some-Err.no (SpaceFor (lacks_room item (page_on path 0)) (page_on path 0) (count_of meta))
+    c.in_ok-plan_room.ensures.space c.in-Some-Err.is c.in-Some-Err.field-0-is in
+    full_from ps item item.key path (way_to ps f.0 f.1 f.2 c.args.root f.3 item.key path v) meta refl c.meta_page.ensures none
