@@ -1,6 +1,6 @@
 -- What the groups of plans do to the trees of a store.
 use Rattle.std.proofs.Common.{◌≡◌, ◌<◌, ◌≤◌, ◌+◌, ℕ, List, [], ◌∷◌, ◌++◌, length, Option, Some, None, IsNone, Result, Ok, Err, true, false, refl, sym, ap, subst, ◌∙◌, arith}
-use Rattle.std.specs.Prelude.{Contains, IfSome, IfOk, IsOk, ◌↔◌}
+use Rattle.std.specs.Prelude.{Contains, IfSome, IfOk, IsOk, OnOk, OnErr, ◌↔◌}
 use Rattle.page_image.specs.Image.{Image}
 use Rattle.redo_record.specs.declared.redo.Record.{Record}
 use Rattle.redo_record.specs.declared.plans.Plan.{Plan}
@@ -95,3 +95,8 @@ refused {A = A} {B = B} o r no_plan Space h e q space =
     let two : IsOk {T = A} {E = B} (Err no_plan) ↔ Space = subst (λ (x : Result A B). IsOk x ↔ Space) q one in
     let f : false ≡ true = two.1 space in
     cc
+
+-- what holds after an answer of either kind
+pub either_way : {A E : Type 0} (r : Result A E) (P Q R : Type 0) → OnOk r P → OnErr r Q → (P → R) → (Q → R) → R
+either_way (Ok x) P Q R h k f g = f h
+either_way (Err e) P Q R h k f g = g k

@@ -3,7 +3,7 @@ use Rattle.tree_store.specs.Forest.{IsRoot}
 use Rattle.tree_store.proofs.tests.items_are_found_by_their_keys.Given as goal
 
 abbrev pub invariant-loop-n : goal.invariant-loop-n
-invariant-loop-n l = IsRoot (pages_of l.store) l.root
+invariant-loop-n g l = IsRoot (pages_of l.store) l.root
 
 abbrev pub invariant-loop-n-2 : goal.invariant-loop-n-2
-invariant-loop-n-2 l = IsRoot (pages_of l.store) l.root
+invariant-loop-n-2 g l = IsRoot (pages_of l.store) l.root
