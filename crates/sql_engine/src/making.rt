@@ -10,7 +10,7 @@ ghost use Rattle.sql_engine.specs.Sound.{IsNewTable};
 use crate::store::{SpaceFull, TableStore};
 use rm_base::{Name, WantOfMemory};
 use sql_exec::{Change, Changes};
-use sql_values::{Column, Row, Schema, Value};
+use sql_values::{Row, Schema, Value};
 use std::alloc::Global;
 
 /// Makes a table, which has a name that no table has.

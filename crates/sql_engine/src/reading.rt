@@ -7,7 +7,7 @@ ghost use Rattle.sql_meaning.specs.Ranges as plan;
 ghost use Rattle.sql_engine.specs.Read as spec;
 
 use crate::store::TableStore;
-use rm_base::{KeyRange, Name, Ranges, WantOfMemory};
+use rm_base::{Name, Ranges, WantOfMemory};
 use sql_exec::{RangeRows, RowLists};
 use sql_meaning::table_named;
 use sql_plan::ranges;
