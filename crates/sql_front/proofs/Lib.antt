@@ -27,3 +27,4 @@ pub mod Again
 pub mod SelectAgain
 pub mod CreateAgain
 pub mod PrintedAgain
+pub mod CreatedLaws

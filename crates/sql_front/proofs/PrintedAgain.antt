@@ -49,7 +49,8 @@ again_command d (inr (inr (inr m))) h = out_right (out_right (out_right (again_c
 abbrev Ending : Stmt → Rule Stmt
 Ending y = (Both (the (sign s.Semicolon)) (λ _. nothing y)) or nothing y
 
-ending_same : {k : ℕ} {i : Input} {x : Stmt} (y : Stmt) → Ending y k i x → y ≡ x
+-- with or without a semicolon it is the same statement
+pub ending_same : {k : ℕ} {i : Input} {x : Stmt} (y : Stmt) → Ending y k i x → y ≡ x
 ending_same y (inl m) = m.second.1
 ending_same y (inr m) = m.1
 

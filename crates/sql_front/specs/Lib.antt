@@ -11,3 +11,4 @@ pub mod Rules
 pub mod Sentences
 pub mod Short
 pub mod Symbols
+pub mod Created

@@ -19,7 +19,7 @@ mod stopping;
 #[cfg(test)]
 mod tests;
 
-pub use laws::one_meaning;
+pub use laws::{created_tables, one_meaning};
 pub use parsing::{LONGEST_TEXT, Syntax, parse};
 pub use rendering::print;
 pub use sql_statements::{
