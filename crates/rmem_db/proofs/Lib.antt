@@ -1,10 +1,7 @@
-mod FoldingLaws
-mod ItemLaws
 mod KnownText
-mod OutputLaws
+mod TurnsLaws
+mod OneLine
+mod SessionLaws
 mod ServingLaws
 mod LineEnds
 mod LineLaws
-mod StatementLaws
-mod TableLaws
-mod TableLogLaws

@@ -1,5 +1,5 @@
 -- The laws of a run over the word `serve`.
-use Rattle.std.proofs.Common.{◌≡◌, ◌≤◌, ◌<◌, ◌+◌, ◌-◌, ℕ, suc, Bool, true, false, cond, List, [], ◌∷◌, ◌++◌, length, take, drop, Option, Result, Ok, Err, OnOk, OnErr, nat_le, refl, sym, ap, ◌∙◌, subst, arith, append_assoc, append-nil, length-append, length-take, get_or-take, flat_map, codes}
+use Rattle.std.proofs.Common.{◌≡◌, ◌≤◌, ◌<◌, ◌+◌, ◌-◌, ℕ, suc, Bool, true, false, cond, List, [], ◌∷◌, ◌++◌, length, take, drop, Option, Result, Ok, Err, OnOk, OnErr, nat_le, refl, sym, ap, ◌∙◌, subst, arith, append_assoc, append-nil, length-append, length-take, get_or-take, flat_map, codes, inl, inr}
 use Rattle.std.proofs.lemmas.Grind.{flat_map-append}
 use Rattle.std.proofs.lemmas.Bool.{le-leb, lt-leb}
 use Rattle.std.proofs.lemmas.Result.{on_ok_weaker, on_err_weaker}
@@ -10,45 +10,56 @@ use Rattle.std.specs.List.{AllByRecursion}
 use Rattle.std.specs.Io.KnownBytes.{Appends, Consumes, Keeps, IsAtEnd}
 use Rattle.rm_env.specs.declared.sink.SinkNo.{SinkNo}
 use Rattle.rm_env.specs.declared.sink.SinkNo.TheVariants as no
+use Rattle.reply_text.specs.Texts.{reply_text}
+use Rattle.sql_exec.specs.declared.replies.SqlReply.{SqlReply}
+use Rattle.sql_exec.specs.Applied.{empty}
+use Rattle.session_state.specs.Laws.{LinesAreAnswered, TurnsGoOn}
+use Rattle.session_state.specs.Serving.{TableState, Turns, at_rest}
 use Rattle.rmem_db.specs.declared.status.Status.{Status}
 use Rattle.rmem_db.specs.declared.status.Status.TheVariants.{Done, TooLong}
 use Rattle.rmem_db.specs.Lines.{lines, whole_lines, filled}
 use Rattle.rmem_db.specs.Reading.{Held, HasNoLf, IsLineEnd, ReadsMore, ReadsEnd, ReadsPast, ReadsSome}
-use Rattle.rmem_db.specs.Table.{Row, rows_after_all}
-use Rattle.rmem_db.specs.TableLog.{HoldsRows}
-use Rattle.rmem_db.specs.Texts.{ended}
-use Rattle.rmem_db.specs.Replies.{output_from, output_of}
+use Rattle.rmem_db.specs.Serving.{Answered, Serves, StoppedIn, IsServed, IsTooLong, IsBroken, IsCutOff, Ends, ending_for, lines_for, status_after}
+use Rattle.rmem_db.specs.Session.{Reads}
+use Rattle.rmem_db.specs.Texts.{ended, replies_text}
 use Rattle.rmem_db.specs.Writing.{AppendsFront}
-use Rattle.rmem_db.specs.Serving.{Serves, IsServed, IsTooLong, IsBroken, IsCutOff, Ends, status_after, text_for, text_of_lines, text_of_whole_lines}
 use Rattle.rmem_db.proofs.KnownText.{AppendsFront-append, AppendsFront-all, AppendsFront-behind}
 use Rattle.rmem_db.proofs.LineLaws.{lines-none, lines-at, lines-ended, whole_lines-split, AllByRecursion-push}
-use Rattle.rmem_db.proofs.OutputLaws.{rows-filled_append, output-filled_append, output-nil}
+use Rattle.rmem_db.proofs.TurnsLaws.{filled-append, says}
 
--- ---- the text for an input
+-- ---- the lines of an input
 
 at_most_limit : (n : ℕ) → n ≤ 4194304 → nat_le n 4194304 ≡ true
 at_most_limit n few = le-leb n 4194304 few
 
-text-few : (input : List ℕ) → length input ≤ 4194304 → text_for input ≡ text_of_lines input
-unfolding text_for
-text-few input few =
-    ap (λ (b : Bool). cond b (text_of_lines input) (text_of_whole_lines (take 4194304 input) ++ ended (codes "too long"))) (at_most_limit (length input) few)
+lines-few : (input : List ℕ) → length input ≤ 4194304 → lines_for input ≡ filled (lines input)
+unfolding lines_for
+lines-few input few =
+    ap (λ (b : Bool). cond b (filled (lines input)) (filled (whole_lines (take 4194304 input)))) (at_most_limit (length input) few)
 
-text-past : (input : List ℕ) (byte : ℕ) → length input ≡ 4194304 → text_for (input ++ byte ∷ []) ≡ text_of_whole_lines input ++ ended (codes "too long")
-unfolding text_for
-text-past input byte full =
-    let whole : List ℕ = input ++ byte ∷ [] in
-    let past : nat_le (length whole) 4194304 ≡ false = lt-leb (length whole) 4194304 (omega (arith, length-append input (byte ∷ []))) in
-    let front : take 4194304 whole ≡ input = ap (λ (n : ℕ). take n whole) (sym full) ∙ take-append_seam input (byte ∷ []) in
-    ap (λ (b : Bool). cond b (text_of_lines whole) (text_of_whole_lines (take 4194304 whole) ++ ended (codes "too long"))) past
-    ∙ ap (λ (q : List ℕ). text_of_whole_lines q ++ ended (codes "too long")) front
+-- an input of one byte past the limit
+module _ (input : List ℕ) (byte : ℕ) (full : length input ≡ 4194304) where
+  abbrev longer : List ℕ
+  longer = input ++ byte ∷ []
 
--- the text of lines that were answered, and then of others
-text_of_lines-ended : (whole : List (List ℕ)) (rest : List ℕ) → AllByRecursion HasNoLf whole
-    → text_of_lines (flat_map ended whole ++ rest) ≡ output_of (filled whole) ++ output_from (rows_after_all [] (filled whole)) (filled (lines rest))
-unfolding text_of_lines
-text_of_lines-ended whole rest each =
-    ap (λ (q : List (List ℕ)). output_of (filled q)) (lines-ended whole rest each) ∙ output-filled_append [] whole (lines rest)
+  past : nat_le (length longer) 4194304 ≡ false
+  past = lt-leb (length longer) 4194304 (omega (arith, length-append input (byte ∷ [])))
+
+  pub within-past : take 4194304 longer ≡ input
+  within-past = ap (λ (n : ℕ). take n longer) (sym full) ∙ take-append_seam input (byte ∷ [])
+
+  pub lines-past : lines_for longer ≡ filled (whole_lines input)
+  unfolding lines_for
+  lines-past =
+      ap (λ (b : Bool). cond b (filled (lines longer)) (filled (whole_lines (take 4194304 longer)))) past ∙ ap (λ (q : List ℕ). filled (whole_lines q)) within-past
+
+  pub ending-past : ending_for longer ≡ ended (codes "too long")
+  unfolding ending_for
+  ending-past = ap (λ (b : Bool). cond b [] (ended (codes "too long"))) past
+
+-- lines that were answered, and then others
+filled-ended : (whole : List (List ℕ)) (rest : List ℕ) → AllByRecursion HasNoLf whole → filled (lines (flat_map ended whole ++ rest)) ≡ filled whole ++ filled (lines rest)
+filled-ended whole rest each = ap filled (lines-ended whole rest each) ∙ filled-append whole (lines rest)
 
 -- ---- the status after a last writing
 
@@ -65,18 +76,48 @@ regroup front line rest = sym (append_assoc front (flat_map ended (line ∷ []))
   inner : (line rest : List ℕ) → flat_map ended (line ∷ []) ++ rest ≡ line ++ 10 ∷ rest
   inner line rest = ap (λ (q : List ℕ). q ++ rest) (append-nil (ended line)) ∙ append_assoc line (10 ∷ []) rest
 
-module _ (left left' taken now : Option (List ℕ)) (log : List ℕ) (held : Held) (s : Serves left left' taken now log held) where
+texts-append : (rs ss : List SqlReply) → replies_text (rs ++ ss) ≡ replies_text rs ++ replies_text ss
+texts-append rs ss = flat_map-append (reply_text []) rs ss
+
+-- the text, and nothing behind it
+alone : (taken now : Option (List ℕ)) (text : List ℕ) → AppendsFront taken now text → AppendsFront taken now (text ++ [])
+alone taken now text h = subst (AppendsFront taken now) (sym (append-nil text)) h
+
+module _ (more_turns : TurnsGoOn Reads) (answers : LinesAreAnswered Reads) (left left' taken now : Option (List ℕ)) (At : TableState → Type 0) (held : Held) (s : Serves left left' taken now At held) where
   few_read : length s.input ≤ 4194304
   few_read = let c = s.count in let f = s.few in omega arith
 
-  -- the rows that the log holds, and what the lines still to come are answered over them
-  abbrev pub rows_now : List Row
-  rows_now = rows_after_all [] (filled s.answered)
+  -- the lines that are answered for the input so far
+  begins : lines_for s.input ≡ filled s.answered ++ filled (lines held.bytes)
+  begins = lines-few s.input few_read ∙ ap (λ (q : List ℕ). filled (lines q)) s.parts ∙ filled-ended s.answered held.bytes s.each
 
-  -- what stands for the input so far begins with what was written
-  text-begins : text_for s.input ≡ output_of (filled s.answered) ++ output_from rows_now (filled (lines held.bytes))
-  text-begins =
-      text-few s.input few_read ∙ ap text_of_lines s.parts ∙ text_of_lines-ended s.answered held.bytes s.each
+  -- more lines took their turns
+  abbrev all_turns : (more : List (List ℕ)) (ss : List SqlReply) (t : TableState) → Turns Reads s.state more ss t → Turns Reads (at_rest empty) (filled s.answered ++ more) (s.replies ++ ss) t
+  all_turns more ss t u = more_turns (filled s.answered) more s.replies ss (at_rest empty) s.state t s.turns u
+
+  written-more : (next : Option (List ℕ)) (ss : List SqlReply) → Appends now next (replies_text ss) → Appends taken next (replies_text (s.replies ++ ss))
+  written-more next ss w = subst (Appends taken next) (sym (texts-append s.replies ss)) (Appends-trans taken now next (replies_text s.replies) (replies_text ss) s.written w)
+
+  -- the run stopped in lines that stand before others
+  stops : (left'' next : Option (List ℕ)) (input : List ℕ) → Consumes left left'' input → (here others : List (List ℕ)) → lines_for input ≡ filled s.answered ++ (here ++ others)
+      → StoppedIn s.state here now next → IsCutOff left left'' taken next
+  stops left'' next input read here others parts p =
+      record {
+        input = input;
+        read = read;
+        first = filled s.answered ++ p.first;
+        others = p.others ++ others;
+        parts =
+            parts
+            ∙ (ap (λ (q : List (List ℕ)). filled s.answered ++ (q ++ others)) p.parts
+            ∙ (ap (λ (q : List (List ℕ)). filled s.answered ++ q) (append_assoc p.first p.others others)
+            ∙ sym (append_assoc (filled s.answered) p.first (p.others ++ others))));
+        text = replies_text (s.replies ++ p.replies);
+        says = says answers (filled s.answered ++ p.first) (s.replies ++ p.replies) p.new (all_turns p.first p.replies p.new p.turns);
+        ending = [];
+        ends = inl refl;
+        written = alone taken next _ (subst (AppendsFront taken next) (sym (texts-append s.replies p.replies)) (AppendsFront-behind taken now next (replies_text s.replies) (replies_text p.replies) s.written p.written));
+      }
 
   -- the front of the held bytes is a line
   module _ (n : ℕ) (line_end : IsLineEnd held.bytes n) where
@@ -99,11 +140,11 @@ module _ (left left' taken now : Option (List ℕ)) (log : List ℕ) (held : Hel
         ∙ ap (λ (q : List ℕ). q ++ drop (n + 1) held.bytes) (sym (flat_map-append ended s.answered (take n held.bytes ∷ [])))
 
     -- the line was answered
-    pub Serves-line : (line : List ℕ) → line ≡ take n held.bytes → (log' : List ℕ) (next : Option (List ℕ)) (held' : Held)
-        → ((rows : List Row) → HoldsRows log rows → HoldsRows log' (rows_after_all rows (filled (line ∷ []))))
-        → ((rows : List Row) → HoldsRows log rows → Appends now next (output_from rows (filled (line ∷ []))))
-        → held'.bytes ≡ drop (n + 1) held.bytes → held'.taken ≡ held.taken → Serves left left' taken next log' held'
-    Serves-line line is log' next held' rows written bytes same =
+    pub Serves-line : (line : List ℕ) → line ≡ take n held.bytes → (At' : TableState → Type 0) (next : Option (List ℕ)) (held' : Held)
+        → ((t : TableState) → At t → Answered t (filled (line ∷ [])) At' now next)
+        → held'.bytes ≡ drop (n + 1) held.bytes → held'.taken ≡ held.taken → Serves left left' taken next At' held'
+    Serves-line line is At' next held' told bytes same =
+        let a : Answered s.state (filled (line ∷ [])) At' now next = told s.state s.stands in
         record {
           input = s.input;
           read = s.read;
@@ -113,37 +154,30 @@ module _ (left left' taken now : Option (List ℕ)) (log : List ℕ) (held : Hel
           each = AllByRecursion-push s.answered line s.each (subst HasNoLf (sym is) line_clear);
           parts = parts-line ∙ ap (λ (q : List ℕ). flat_map ended (s.answered ++ q ∷ []) ++ drop (n + 1) held.bytes) (sym is)
               ∙ ap (λ (q : List ℕ). flat_map ended (s.answered ++ line ∷ []) ++ q) (sym bytes);
-          rows = subst (HoldsRows log') (sym (rows-filled_append [] s.answered (line ∷ []))) (rows _ s.rows);
-          written = subst (Appends taken next) (sym (output-filled_append [] s.answered (line ∷ []))) (Appends-trans taken now next _ _ s.written (written _ s.rows));
+          replies = s.replies ++ a.replies;
+          state = a.new;
+          turns = subst (λ (q : List (List ℕ)). Turns Reads (at_rest empty) q (s.replies ++ a.replies) a.new) (sym (filled-append s.answered (line ∷ []))) (all_turns (filled (line ∷ [])) a.replies a.new a.turns);
+          stands = a.stands;
+          written = written-more next a.replies a.written;
         }
 
     -- the answer to the line was cut off
-    pub IsCutOff-line : (line : List ℕ) → line ≡ take n held.bytes → (next : Option (List ℕ))
-        → ((rows : List Row) → HoldsRows log rows → AppendsFront now next (output_from rows (filled (line ∷ []))))
-        → IsCutOff left left' taken next
-    IsCutOff-line line is next written =
+    pub IsCutOff-line : (line : List ℕ) → line ≡ take n held.bytes → (next : Option (List ℕ)) → ((t : TableState) → At t → StoppedIn t (filled (line ∷ [])) now next) → IsCutOff left left' taken next
+    IsCutOff-line line is next told =
         let first : lines held.bytes ≡ (line ∷ []) ++ lines (drop (n + 1) held.bytes) =
         ap lines line_parts ∙ lines-at (take n held.bytes) (drop (n + 1) held.bytes) line_clear
         ∙ ap (λ (q : List ℕ). q ∷ lines (drop (n + 1) held.bytes)) (sym is) in
-        let text = text-begins
-        ∙ ap (λ (q : List (List ℕ)). output_of (filled s.answered) ++ output_from (rows_after_all [] (filled s.answered)) (filled q)) first
-        ∙ ap (λ (q : List ℕ). output_of (filled s.answered) ++ q) (output-filled_append (rows_after_all [] (filled s.answered)) (line ∷ []) (lines (drop (n + 1) held.bytes))) in
-        record {
-          input = s.input;
-          read = s.read;
-          written = subst (AppendsFront taken next) (sym text) (AppendsFront-behind taken now next _ _ s.written (AppendsFront-append now next _ _ (written _ s.rows)));
-        }
+        stops left' next s.input s.read (filled (line ∷ [])) (filled (lines (drop (n + 1) held.bytes)))
+        (begins ∙ ap (λ (q : List (List ℕ)). filled s.answered ++ q) (ap filled first ∙ filled-append (line ∷ []) (lines (drop (n + 1) held.bytes)))) (told s.state s.stands)
 
-  whole_text : HasNoLf held.bytes → text_of_whole_lines s.input ≡ output_of (filled s.answered)
-  unfolding text_of_whole_lines
-  whole_text none =
-      ap (λ (q : List ℕ). output_of (filled (whole_lines q))) s.parts
-      ∙ ap (λ (q : List (List ℕ)). output_of (filled q)) (whole_lines-split s.answered held.bytes s.each none)
+  whole_held : HasNoLf held.bytes → filled (whole_lines s.input) ≡ filled s.answered
+  whole_held none =
+      ap (λ (q : List ℕ). filled (whole_lines q)) s.parts ∙ ap filled (whole_lines-split s.answered held.bytes s.each none)
 
   -- ---- more input
 
   -- more bytes are held
-  pub Serves-more : (left'' : Option (List ℕ)) (held' : Held) → ReadsMore left' left'' held held' → held'.taken ≤ 4194304 → Serves left left'' taken now log held'
+  pub Serves-more : (left'' : Option (List ℕ)) (held' : Held) → ReadsMore left' left'' held held' → held'.taken ≤ 4194304 → Serves left left'' taken now At held'
   Serves-more left'' held' r few =
       record {
         input = s.input ++ r.more;
@@ -154,7 +188,10 @@ module _ (left left' taken now : Option (List ℕ)) (log : List ℕ) (held : Hel
         each = s.each;
         parts = ap (λ (q : List ℕ). q ++ r.more) s.parts ∙ append_assoc (flat_map ended s.answered) held.bytes r.more
             ∙ ap (λ (q : List ℕ). flat_map ended s.answered ++ q) (sym r.held);
-        rows = s.rows;
+        replies = s.replies;
+        state = s.state;
+        turns = s.turns;
+        stands = s.stands;
         written = s.written;
       }
 
@@ -165,7 +202,9 @@ module _ (left left' taken now : Option (List ℕ)) (log : List ℕ) (held : Hel
         input = s.input;
         read = Consumes-kept left left' left'' s.input s.read kept;
         few = few_read;
-        written = subst (Appends taken now) (sym (whole_text none)) s.written;
+        text = replies_text s.replies;
+        says = says answers (filled (whole_lines s.input)) s.replies s.state (subst (λ (q : List (List ℕ)). Turns Reads (at_rest empty) q s.replies s.state) (sym (whole_held none)) s.turns);
+        written = s.written;
       }
 
   -- memory ran out after some bytes were read
@@ -175,57 +214,64 @@ module _ (left left' taken now : Option (List ℕ)) (log : List ℕ) (held : Hel
       let few : length input ≤ 4194304 = (let c = s.count in let f = s.few in let m = r.few in omega (arith, length-append s.input r.more)) in
       let parts : input ≡ flat_map ended s.answered ++ (held.bytes ++ r.more) =
       ap (λ (q : List ℕ). q ++ r.more) s.parts ∙ append_assoc (flat_map ended s.answered) held.bytes r.more in
-      let text = text-few input few ∙ ap text_of_lines parts ∙ text_of_lines-ended s.answered (held.bytes ++ r.more) s.each in
       record {
         input = input;
         read = Consumes-trans left left' left'' s.input r.more s.read r.read;
-        written = subst (AppendsFront taken now) (sym text) (AppendsFront-all taken now _ _ s.written);
+        first = filled s.answered;
+        others = filled (lines (held.bytes ++ r.more));
+        parts = lines-few input few ∙ ap (λ (q : List ℕ). filled (lines q)) parts ∙ filled-ended s.answered (held.bytes ++ r.more) s.each;
+        text = replies_text s.replies;
+        says = says answers (filled s.answered) s.replies s.state s.turns;
+        ending = [];
+        ends = inl refl;
+        written = AppendsFront-all taken now (replies_text s.replies) [] s.written;
       }
 
   -- ---- the end
 
-  last_text : HasNoLf held.bytes → text_for s.input ≡ output_of (filled s.answered) ++ output_from (rows_after_all [] (filled s.answered)) (filled (held.bytes ∷ []))
-  last_text none =
-      text-begins ∙ ap (λ (q : List (List ℕ)). output_of (filled s.answered) ++ output_from (rows_after_all [] (filled s.answered)) (filled q)) (lines-none held.bytes none)
+  last_lines : HasNoLf held.bytes → filled (lines s.input) ≡ filled s.answered ++ filled (held.bytes ∷ [])
+  last_lines none =
+      ap (λ (q : List ℕ). filled (lines q)) s.parts ∙ filled-ended s.answered held.bytes s.each
+      ∙ ap (λ (q : List (List ℕ)). filled s.answered ++ filled q) (lines-none held.bytes none)
 
   -- the last line was answered at the end
-  IsServed-last : (left'' next : Option (List ℕ)) → HasNoLf held.bytes → Consumes left' left'' [] → IsAtEnd left''
-      → Appends now next (output_from rows_now (filled (held.bytes ∷ []))) → IsServed left left'' taken next
-  IsServed-last left'' next none read at_end written =
+  IsServed-last : (left'' next : Option (List ℕ)) (At' : TableState → Type 0) → HasNoLf held.bytes → Consumes left' left'' [] → IsAtEnd left''
+      → Answered s.state (filled (held.bytes ∷ [])) At' now next → IsServed left left'' taken next
+  IsServed-last left'' next At' none read at_end a =
       record {
         input = s.input;
         read = subst (Consumes left left'') (append-nil s.input) (Consumes-trans left left' left'' s.input [] s.read read);
         at_end = at_end;
         few = few_read;
-        written = subst (Appends taken next) (sym (last_text none)) (Appends-trans taken now next _ _ s.written written);
+        text = replies_text (s.replies ++ a.replies);
+        says = says answers (filled (lines s.input)) (s.replies ++ a.replies) a.new
+            (subst (λ (q : List (List ℕ)). Turns Reads (at_rest empty) q (s.replies ++ a.replies) a.new) (sym (last_lines none)) (all_turns (filled (held.bytes ∷ [])) a.replies a.new a.turns));
+        written = written-more next a.replies a.written;
       }
 
   IsCutOff-last : (left'' next : Option (List ℕ)) → HasNoLf held.bytes → Consumes left' left'' []
-      → AppendsFront now next (output_from rows_now (filled (held.bytes ∷ []))) → IsCutOff left left'' taken next
-  IsCutOff-last left'' next none read written =
-      record {
-        input = s.input;
-        read = subst (Consumes left left'') (append-nil s.input) (Consumes-trans left left' left'' s.input [] s.read read);
-        written = subst (AppendsFront taken next) (sym (last_text none)) (AppendsFront-behind taken now next _ _ s.written written);
-      }
+      → StoppedIn s.state (filled (held.bytes ∷ [])) now next → IsCutOff left left'' taken next
+  IsCutOff-last left'' next none read p =
+      stops left'' next s.input (subst (Consumes left left'') (append-nil s.input) (Consumes-trans left left' left'' s.input [] s.read read)) (filled (held.bytes ∷ [])) []
+      (lines-few s.input few_read ∙ last_lines none ∙ ap (λ (q : List (List ℕ)). filled s.answered ++ q) (sym (append-nil (filled (held.bytes ∷ []))))) p
 
   -- ---- past the limit
 
   full : held.taken ≡ 4194304 → length s.input ≡ 4194304
   full e = sym s.count ∙ e
 
-  past_text : HasNoLf held.bytes → held.taken ≡ 4194304 → (byte : ℕ) → text_for (s.input ++ byte ∷ []) ≡ output_of (filled s.answered) ++ ended (codes "too long")
-  past_text none e byte =
-      text-past s.input byte (full e) ∙ ap (λ (q : List ℕ). q ++ ended (codes "too long")) (whole_text none)
-
   IsTooLong-past : (left'' next : Option (List ℕ)) (held' : Held) → HasNoLf held.bytes → held.taken ≡ 4194304 → ReadsPast left' left'' held held'
       → Appends now next (ended (codes "too long")) → IsTooLong left left'' taken next
   IsTooLong-past left'' next held' none e r written =
+      let same : filled (whole_lines (take 4194304 (s.input ++ r.byte ∷ []))) ≡ filled s.answered =
+      ap (λ (q : List ℕ). filled (whole_lines q)) (within-past s.input r.byte (full e)) ∙ whole_held none in
       record {
         input = s.input ++ r.byte ∷ [];
         read = Consumes-trans left left' left'' s.input (r.byte ∷ []) s.read r.read;
         past = (let f = full e in omega (arith, length-append s.input (r.byte ∷ [])));
-        written = subst (Appends taken next) (sym (past_text none e r.byte)) (Appends-trans taken now next _ _ s.written written);
+        text = replies_text s.replies;
+        says = says answers (filled (whole_lines (take 4194304 (s.input ++ r.byte ∷ [])))) s.replies s.state (subst (λ (q : List (List ℕ)). Turns Reads (at_rest empty) q s.replies s.state) (sym same) s.turns);
+        written = Appends-trans taken now next (replies_text s.replies) (ended (codes "too long")) s.written written;
       }
 
   IsCutOff-past : (left'' next : Option (List ℕ)) (held' : Held) → HasNoLf held.bytes → held.taken ≡ 4194304 → ReadsPast left' left'' held held'
@@ -234,42 +280,49 @@ module _ (left left' taken now : Option (List ℕ)) (log : List ℕ) (held : Hel
       record {
         input = s.input ++ r.byte ∷ [];
         read = Consumes-trans left left' left'' s.input (r.byte ∷ []) s.read r.read;
-        written = subst (AppendsFront taken next) (sym (past_text none e r.byte)) (AppendsFront-behind taken now next _ _ s.written written);
+        first = filled s.answered;
+        others = [];
+        parts = lines-past s.input r.byte (full e) ∙ whole_held none ∙ sym (append-nil (filled s.answered));
+        text = replies_text s.replies;
+        says = says answers (filled s.answered) s.replies s.state s.turns;
+        ending = ended (codes "too long");
+        ends = inr (refl, sym (ending-past s.input r.byte (full e)));
+        written = AppendsFront-behind taken now next (replies_text s.replies) (ended (codes "too long")) s.written written;
       }
 
   -- ---- the status
 
   -- what a last line at the end leads to
-  pub Ends-last : (left'' next : Option (List ℕ)) (held' : Held) → HasNoLf held.bytes → ReadsEnd left' left'' held held' → (line : List ℕ) → line ≡ held'.bytes
+  pub Ends-last : (left'' next : Option (List ℕ)) (held' : Held) (At' : TableState → Type 0) → HasNoLf held.bytes → ReadsEnd left' left'' held held' → (line : List ℕ) → line ≡ held'.bytes
       → {T : Type 0} (r : Result T SinkNo) (status : Status) → status ≡ status_after r Done
-      → ((rows : List Row) → HoldsRows log rows → OnOk r (Appends now next (output_from rows (filled (line ∷ [])))))
-      → ((rows : List Row) → HoldsRows log rows → OnErr r (AppendsFront now next (output_from rows (filled (line ∷ [])))))
+      → ((t : TableState) → At t → OnOk r (Answered t (filled (line ∷ [])) At' now next))
+      → ((t : TableState) → At t → OnErr r (StoppedIn t (filled (line ∷ [])) now next))
       → Ends status left left'' taken next
-  Ends-last left'' next held' none end line is r status told ok err =
+  Ends-last left'' next held' At' none end line is r status told ok err =
       let same : line ≡ held.bytes = is ∙ ap (λ (h : Held). h.bytes) end.held in
-      let served : Appends now next (output_from rows_now (filled (line ∷ []))) → IsServed left left'' taken next =
-      λ w. IsServed-last left'' next none end.read end.at_end (subst (λ (l : List ℕ). Appends now next (output_from rows_now (filled (l ∷ [])))) same w) in
-      let cut : AppendsFront now next (output_from rows_now (filled (line ∷ []))) → IsCutOff left left'' taken next =
-      λ w. IsCutOff-last left'' next none end.read (subst (λ (l : List ℕ). AppendsFront now next (output_from rows_now (filled (l ∷ [])))) same w) in
+      let served : Answered s.state (filled (line ∷ [])) At' now next → IsServed left left'' taken next =
+      λ w. IsServed-last left'' next At' none end.read end.at_end (subst (λ (l : List ℕ). Answered s.state (filled (l ∷ [])) At' now next) same w) in
+      let cut : StoppedIn s.state (filled (line ∷ [])) now next → IsCutOff left left'' taken next =
+      λ w. IsCutOff-last left'' next none end.read (subst (λ (l : List ℕ). StoppedIn s.state (filled (l ∷ [])) now next) same w) in
       subst (λ (st : Status). Ends st left left'' taken next) (sym told)
-      (Ends-after r Done left left'' taken next (on_ok_weaker r served (ok rows_now s.rows)) (on_err_weaker r cut (err rows_now s.rows)))
+      (Ends-after r Done left left'' taken next (on_ok_weaker r served (ok s.state s.stands)) (on_err_weaker r cut (err s.state s.stands)))
 
   -- what an input past the limit leads to
   pub Ends-past : (left'' next : Option (List ℕ)) (held' : Held) → HasNoLf held.bytes → held.taken ≡ 4194304 → ReadsPast left' left'' held held'
       → {T : Type 0} (r : Result T SinkNo) (status : Status) → status ≡ status_after r TooLong
       → OnOk r (Appends now next (ended (codes "too long"))) → OnErr r (AppendsFront now next (ended (codes "too long")))
       → Ends status left left'' taken next
-  Ends-past left'' next held' none limit past r status told ok err =
-      let served : Appends now next (ended (codes "too long")) → IsTooLong left left'' taken next = λ w. IsTooLong-past left'' next held' none limit past w in
-      let cut : AppendsFront now next (ended (codes "too long")) → IsCutOff left left'' taken next = λ w. IsCutOff-past left'' next held' none limit past w in
+  Ends-past left'' next held' none limit past_end r status told ok err =
+      let served : Appends now next (ended (codes "too long")) → IsTooLong left left'' taken next = λ w. IsTooLong-past left'' next held' none limit past_end w in
+      let cut : AppendsFront now next (ended (codes "too long")) → IsCutOff left left'' taken next = λ w. IsCutOff-past left'' next held' none limit past_end w in
       subst (λ (st : Status). Ends st left left'' taken next) (sym told)
       (Ends-after r TooLong left left'' taken next (on_ok_weaker r served ok) (on_err_weaker r cut err))
 
 -- ---- the start
 
-pub Serves-start : (left taken : Option (List ℕ)) (log : List ℕ) (held : Held) → HoldsRows log [] → held ≡ record { bytes = []; taken = 0 }
-    → Serves left left taken taken log held
-Serves-start left taken log held rows start =
+pub Serves-start : (left taken : Option (List ℕ)) (At : TableState → Type 0) (held : Held) → At (at_rest empty) → held ≡ record { bytes = []; taken = 0 }
+    → Serves left left taken taken At held
+Serves-start left taken At held stands start =
     record {
       input = [];
       read = Consumes-nil left;
@@ -278,11 +331,25 @@ Serves-start left taken log held rows start =
       answered = [];
       each = tt;
       parts = sym (ap (λ (h : Held). h.bytes) start);
-      rows = rows;
-      written = subst (Appends taken taken) (sym (output-nil [])) (Appends-nil taken);
+      replies = [];
+      state = at_rest empty;
+      turns = (refl, refl);
+      stands = stands;
+      written = Appends-nil taken;
     }
 
 -- nothing was read or written
-pub IsCutOff-start : (left taken : Option (List ℕ)) → IsCutOff left left taken taken
-IsCutOff-start left taken =
-    record { input = []; read = Consumes-nil left; written = record { front = []; rest = text_for []; parts = refl; grew = Appends-nil taken } }
+pub IsCutOff-start : LinesAreAnswered Reads → (left taken : Option (List ℕ)) → IsCutOff left left taken taken
+IsCutOff-start answers left taken =
+    record {
+      input = [];
+      read = Consumes-nil left;
+      first = [];
+      others = lines_for [];
+      parts = refl;
+      text = [];
+      says = says answers [] [] (at_rest empty) (refl, refl);
+      ending = [];
+      ends = inl refl;
+      written = record { front = []; rest = []; parts = refl; grew = Appends-nil taken };
+    }

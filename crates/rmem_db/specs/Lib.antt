@@ -1,12 +1,7 @@
-pub mod Statuses
-pub mod Writing
 pub mod Lines
-pub mod Statements
-pub mod Table
-pub mod Texts
-pub mod Replies
-pub mod Items
-pub mod TableLog
-pub mod Folding
-pub mod Serving
 pub mod Reading
+pub mod Session
+pub mod Serving
+pub mod Statuses
+pub mod Texts
+pub mod Writing

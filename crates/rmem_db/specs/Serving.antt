@@ -1,34 +1,29 @@
 -- What a run has read and written.
-use Rattle.std.specs.Prelude.{◌≡◌, ◌≤◌, ℕ, List, [], ◌∷◌, ◌++◌, length, take, flat_map, codes, Option, Result, Ok, Err, nat_le, if◌then◌else◌}
+use Rattle.std.specs.Prelude.{◌≡◌, ◌≤◌, ◌⊎◌, ℕ, List, [], ◌∷◌, ◌++◌, length, take, flat_map, codes, Option, Result, Ok, Err, nat_le, if◌then◌else◌}
 use Rattle.std.specs.List.{AllByRecursion}
 use Rattle.std.specs.Io.KnownBytes.{Appends, Consumes, IsAtEnd}
 use Rattle.rm_env.specs.Faults.{Rose}
 use Rattle.rm_env.specs.declared.sink.SinkNo.{SinkNo}
 use Rattle.rm_env.specs.declared.sink.SinkNo.TheVariants as no
+use Rattle.sql_exec.specs.declared.replies.SqlReply.{SqlReply}
+use Rattle.sql_exec.specs.Applied.{empty}
+use Rattle.session_state.specs.declared.entries.Entry.{Entry}
+use Rattle.session_state.specs.Serving.{AreAnswered, TableState, Turns, at_rest}
 use Rattle.rmem_db.specs.declared.status.Status.{Status}
 use Rattle.rmem_db.specs.declared.status.Status.TheVariants.{Done, BadWords, BadScript, ReadFault, WriteFault, TooLong, BadLog, WantOfMemory}
 use Rattle.rmem_db.specs.Lines.{lines, whole_lines, filled}
 use Rattle.rmem_db.specs.Reading.{Held, HasNoLf}
-use Rattle.rmem_db.specs.Table.{rows_after_all}
-use Rattle.rmem_db.specs.TableLog.{HoldsRows}
-use Rattle.rmem_db.specs.Texts.{ended}
-use Rattle.rmem_db.specs.Replies.{output_of}
+use Rattle.rmem_db.specs.Session.{Reads}
+use Rattle.rmem_db.specs.Texts.{ended, replies_text, text_of}
 use Rattle.rmem_db.specs.Writing.{AppendsFront}
 
--- the replies to all lines of the input
-unfoldable pub text_of_lines : List ℕ → List ℕ
-text_of_lines input = output_of (filled (lines input))
-
--- the replies to the lines that an LF ends
-unfoldable pub text_of_whole_lines : List ℕ → List ℕ
-text_of_whole_lines input = output_of (filled (whole_lines input))
-
--- What is written for an input: the replies to all its lines; for one past the limit of 4,194,304 bytes,
--- the replies to the whole lines within the limit, and a line that says so.
-unfoldable pub text_for : List ℕ → List ℕ
-text_for input =
-    if nat_le (length input) 4194304 then text_of_lines input
-    else text_of_whole_lines (take 4194304 input) ++ ended (codes "too long")
+-- The text of a run of the table machine, from empty tables, in which one session's lines are answered each before
+-- the next; it is the one run that answers them in full, where no reply says that there is no room.
+pub record IsTextFor (lines : List (List ℕ)) (text : List ℕ) : Type 0 where
+  pub replies : List SqlReply
+  pub entries : List Entry
+  pub answered : AreAnswered Reads 1 empty 0 (codes "a") lines replies entries
+  pub written : text ≡ text_of entries
 
 -- the source was read to its end, and the replies to all its lines were written
 pub record IsServed (left left' taken taken' : Option (List ℕ)) : Type 0 where
@@ -36,31 +31,54 @@ pub record IsServed (left left' taken taken' : Option (List ℕ)) : Type 0 where
   pub read : Consumes left left' input
   pub at_end : IsAtEnd left'
   pub few : length input ≤ 4194304
-  pub written : Appends taken taken' (text_for input)
+  pub text : List ℕ
+  pub says : IsTextFor (filled (lines input)) text
+  pub written : Appends taken taken' text
 
--- one byte past the limit was read, and what stands for such an input was written
+-- one byte past the limit was read; the replies to the whole lines within the limit were written, and a line that
+-- says so
 pub record IsTooLong (left left' taken taken' : Option (List ℕ)) : Type 0 where
   pub input : List ℕ
   pub read : Consumes left left' input
   pub past : length input ≡ 4194305
-  pub written : Appends taken taken' (text_for input)
+  pub text : List ℕ
+  pub says : IsTextFor (filled (whole_lines (take 4194304 input))) text
+  pub written : Appends taken taken' (text ++ ended (codes "too long"))
 
 -- the replies to the whole lines that were read were written
 pub record IsBroken (left left' taken taken' : Option (List ℕ)) : Type 0 where
   pub input : List ℕ
   pub read : Consumes left left' input
   pub few : length input ≤ 4194304
-  pub written : Appends taken taken' (text_of_whole_lines input)
+  pub text : List ℕ
+  pub says : IsTextFor (filled (whole_lines input)) text
+  pub written : Appends taken taken' text
 
--- a front of what stands for the input was written
+-- the lines of an input that are answered: all, or for one past the limit the whole ones within it
+unfoldable pub lines_for : List ℕ → List (List ℕ)
+lines_for input = if nat_le (length input) 4194304 then filled (lines input) else filled (whole_lines (take 4194304 input))
+
+-- what is written behind the replies
+unfoldable pub ending_for : List ℕ → List ℕ
+ending_for input = if nat_le (length input) 4194304 then [] else ended (codes "too long")
+
+-- The first lines of the input were answered, and a front of the replies to them was written, or of the replies to
+-- all lines and what stands behind them.
 pub record IsCutOff (left left' taken taken' : Option (List ℕ)) : Type 0 where
   pub input : List ℕ
   pub read : Consumes left left' input
-  pub written : AppendsFront taken taken' (text_for input)
+  pub first : List (List ℕ)
+  pub others : List (List ℕ)
+  pub parts : lines_for input ≡ first ++ others
+  pub text : List ℕ
+  pub says : IsTextFor first text
+  pub ending : List ℕ
+  pub ends : (ending ≡ []) ⊎ ((others ≡ []) × (ending ≡ ending_for input))
+  pub written : AppendsFront taken taken' (text ++ ending)
 
--- Where a run stands between two lines: the input so far is these lines and what is held, they were
--- answered, and the log holds the rows that they leave.
-pub record Serves (left left' taken taken' : Option (List ℕ)) (log : List ℕ) (held : Held) : Type 0 where
+-- Where a run stands between two lines: the input so far is these lines and what is held, they took their turns with
+-- these replies, which were written, and the session stands at the tables that they made.
+pub record Serves (left left' taken taken' : Option (List ℕ)) (At : TableState → Type 0) (held : Held) : Type 0 where
   pub input : List ℕ
   pub read : Consumes left left' input
   pub count : held.taken ≡ length input
@@ -68,8 +86,29 @@ pub record Serves (left left' taken taken' : Option (List ℕ)) (log : List ℕ)
   pub answered : List (List ℕ)
   pub each : AllByRecursion HasNoLf answered
   pub parts : input ≡ flat_map ended answered ++ held.bytes
-  pub rows : HoldsRows log (rows_after_all [] (filled answered))
-  pub written : Appends taken taken' (output_of (filled answered))
+  pub replies : List SqlReply
+  pub state : TableState
+  pub turns : Turns Reads (at_rest empty) (filled answered) replies state
+  pub stands : At state
+  pub written : Appends taken taken' (replies_text replies)
+
+-- the lines took their turns, and the replies to them were written
+pub record Answered (old : TableState) (lines : List (List ℕ)) (At : TableState → Type 0) (taken taken' : Option (List ℕ)) : Type 0 where
+  pub replies : List SqlReply
+  pub new : TableState
+  pub turns : Turns Reads old lines replies new
+  pub stands : At new
+  pub written : Appends taken taken' (replies_text replies)
+
+-- the first of the lines took their turns, and a front of the replies to them was written
+pub record StoppedIn (old : TableState) (lines : List (List ℕ)) (taken taken' : Option (List ℕ)) : Type 0 where
+  pub first : List (List ℕ)
+  pub others : List (List ℕ)
+  pub parts : lines ≡ first ++ others
+  pub replies : List SqlReply
+  pub new : TableState
+  pub turns : Turns Reads old first replies new
+  pub written : AppendsFront taken taken' (replies_text replies)
 
 -- how a run over the word `serve` ends
 abbrev pub Ends : Status → Option (List ℕ) → Option (List ℕ) → Option (List ℕ) → Option (List ℕ) → Type 0

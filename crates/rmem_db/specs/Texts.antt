@@ -1,17 +1,17 @@
--- Single output lines.
-use Rattle.std.specs.Prelude.{ℕ, ℤ, List, [], ◌∷◌, ◌++◌, codes, decimal}
-use Rattle.std.specs.Fmt.{signed_decimal}
+-- Single output lines, and the text of a run of the table machine.
+use Rattle.std.specs.Prelude.{ℕ, false, List, [], ◌∷◌, ◌++◌, flat_map}
+use Rattle.sql_exec.specs.declared.replies.SqlReply.{SqlReply}
+use Rattle.session_state.specs.declared.entries.Entry.{Entry}
+use Rattle.reply_text.specs.Texts.{journal_text, reply_text}
 
 -- one output line
 abbrev pub ended : List ℕ → List ℕ
 ended text = text ++ 10 ∷ []
 
--- a row's line: key and value, with a comma and a space between
-unfoldable pub row_text : ℤ × ℤ → List ℕ
-row_text row = ended (signed_decimal row.0 ++ (codes ", " ++ signed_decimal row.1))
+-- the text of entries, with no session's name before a reply
+abbrev pub text_of : List Entry → List ℕ
+text_of es = journal_text [] false es
 
-unfoldable pub count_text : ℕ → List ℕ
-count_text n = ended (codes "rows " ++ decimal n)
-
-unfoldable pub duplicate_text : ℤ → List ℕ
-duplicate_text key = ended (codes "error duplicate " ++ signed_decimal key)
+-- the texts of replies
+abbrev pub replies_text : List SqlReply → List ℕ
+replies_text rs = flat_map (reply_text []) rs

@@ -1,8 +1,10 @@
 ghost use Rattle.std.specs.Prelude.{◌≡◌, ◌↔◌, IsTrue, map, string_bytes};
+ghost use Rattle.sql_exec.specs.Applied.{empty};
 ghost use Rattle.rmem_db.specs.Serving.{Ends, Refuses, HasCause, IsServe};
 
-use crate::serving::{serve, status_after};
+use crate::serving::{serve_over, status_after};
 use crate::status::Status;
+use crate::tables::Working;
 use crate::writing::write_piece;
 use rm_env::{Sink, Source};
 use std::alloc::Global;
@@ -18,14 +20,18 @@ fn is_serve(words: &Vec<String>) -> bool
 }
 
 /// Does all that the program does. `words` are those behind the program's name; over `serve` alone the
-/// lines of the source are answered, and over any other words a line that refuses them is written and
+/// lines of the source are answered over empty tables, and over any other words a line that refuses them is written and
 /// the source is not read.
-pub fn run<S: Source, K: Sink>(
+pub fn run_over<W: Working + Drop, S: Source, K: Sink>(
     alloc: Global,
+    tables: W,
     words: &Vec<String>,
     source: &mut S,
     sink: &mut K,
 ) -> Status
+    requires kept { W.kept tables empty }
+    requires tables { W.tables tables empty }
+
     // What each status means for the bytes that the source gave and the sink took.
     ensures serves { IsServe (map string_bytes words.now.items) → Ends result
         (S.left source.old) (S.left source.new) (K.taken sink.old) (K.taken sink.new) }
@@ -41,7 +47,7 @@ pub fn run<S: Source, K: Sink>(
         (S.faults source.old) (S.faults source.new) (K.faults sink.old) (K.faults sink.new) }
 {
     if is_serve(words) {
-        return serve(alloc, source, sink);
+        return serve_over(alloc, tables, source, sink);
     }
     status_after(write_piece(sink, b"bad words\n"), Status::BadWords)
 }

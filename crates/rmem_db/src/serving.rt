@@ -1,21 +1,21 @@
 ghost use Rattle.std.specs.Prelude.{ℕ, List, [], ◌∷◌, ◌≡◌, ◌↔◌, ◌≤◌, IsTrue, ◌<◌, OnOk, OnErr, IfErr, Option, IsErrOf};
-ghost use Rattle.std.specs.Io.KnownBytes.{Appends};
+ghost use Rattle.sql_exec.specs.Applied.{Database, empty};
 ghost use Rattle.rm_env.specs.Faults.{Rose};
+ghost use Rattle.session_state.specs.Serving.{TableState};
 ghost use Rattle.rmem_db.specs.Lines.{is_blank, filled};
 ghost use Rattle.rmem_db.specs.Reading.{HasNoLf};
-ghost use Rattle.rmem_db.specs.Writing.{AppendsFront};
-ghost use Rattle.rmem_db.specs.Table.{Row, rows_after_all};
-ghost use Rattle.rmem_db.specs.TableLog.{HoldsRows};
-ghost use Rattle.rmem_db.specs.Replies.{output_from};
-ghost use Rattle.rmem_db.specs.Serving.{Serves, Ends, HasCause, IsCutOff, status_after};
+ghost use Rattle.rmem_db.specs.Serving.{Answered, Serves, StoppedIn, Ends, HasCause, IsCutOff, status_after};
+ghost use Rattle.rmem_db.specs.Session.{Stands};
 
-use crate::answering::{answer_line, first_log};
+use crate::language::Sql;
 use crate::reading::{Filled, Input, ReadNo};
 use crate::reply_writing::write_reply;
+use crate::session::OneSession;
 use crate::status::Status;
+use crate::tables::Working;
 use crate::writing::write_piece;
-use rm_base::Bytes;
 use rm_env::{Sink, SinkNo, Source};
+use session_state::serving_laws;
 use std::alloc::Global;
 
 /// Whether the line is of spaces, tabs and CRs alone.
@@ -26,47 +26,52 @@ fn is_blank(line: &[u8]) -> bool
         .all(|b| *b == b' ' || *b == b'\t' || *b == b'\r')
 }
 
-/// Answers one line, and writes the reply. A blank line is passed over.
-fn answer<K: Sink>(alloc: Global, log: &mut Bytes, line: &[u8], sink: &mut K) -> Result<(), SinkNo>
-    requires { (rows : List Row) × HoldsRows log.old rows }
-    ensures rows { (rows : List Row) → HoldsRows log.old rows
-        → OnOk result (HoldsRows log.new (rows_after_all rows (filled (line.now ∷ [])))) }
-    ensures ok { (rows : List Row) → HoldsRows log.old rows
-        → OnOk result (Appends (K.taken sink.old) (K.taken sink.new) (output_from rows (filled (line.now ∷ [])))) }
-    ensures err { (rows : List Row) → HoldsRows log.old rows
-        → OnErr result (AppendsFront (K.taken sink.old) (K.taken sink.new) (output_from rows (filled (line.now ∷ [])))) }
+/// Answers one line, and writes the reply. A blank line is passed over. After an `Err` nothing is said of
+/// the session.
+fn answer<W: Working, K: Sink>(
+    alloc: Global,
+    session: &mut OneSession<W>,
+    line: &[u8],
+    sink: &mut K,
+) -> Result<(), SinkNo>
+    requires { (t : TableState) × Stands W.kept W.tables session.old t }
+    ensures ok { (t : TableState) → Stands W.kept W.tables session.old t
+        → OnOk result (Answered t (filled (line.now ∷ [])) (Stands W.kept W.tables session.new) (K.taken sink.old) (K.taken sink.new)) }
+    ensures err { (t : TableState) → Stands W.kept W.tables session.old t
+        → OnErr result (StoppedIn t (filled (line.now ∷ [])) (K.taken sink.old) (K.taken sink.new)) }
     ensures count { K.faults sink.old ≤ K.faults sink.new }
     ensures failed { IsErrOf result SinkNo.Failed → Rose (K.faults sink.old) (K.faults sink.new) }
 {
     if is_blank(line) {
         return Ok(());
     }
-    let reply = answer_line(alloc, log, line)?;
+    let reply = session.answer(alloc, line)?;
     write_reply(alloc, &reply, sink)
 }
 
 /// Answers each whole line that is held.
-fn answer_held<K: Sink>(
+fn answer_held<W: Working, K: Sink>(
     alloc: Global,
-    log: &mut Bytes,
+    session: &mut OneSession<W>,
     input: &mut Input,
     sink: &mut K,
 ) -> Result<(), SinkNo>
-    requires { (rows : List Row) × HoldsRows log.old rows }
-    ensures rows { OnOk result ((rows : List Row) × HoldsRows log.new rows) }
+    requires { (t : TableState) × Stands W.kept W.tables session.old t }
+    ensures stands { OnOk result ((t : TableState) × Stands W.kept W.tables session.new t) }
     ensures none { OnOk result (HasNoLf input.new.bytes) }
     ensures taken { OnOk result (input.new.taken ≡ input.old.taken) }
     ensures serves { (left left' taken : Option (List ℕ))
-        → Serves left left' taken (K.taken sink.old) log.old input.old
-        → OnOk result (Serves left left' taken (K.taken sink.new) log.new input.new) }
+        → Serves left left' taken (K.taken sink.old) (Stands W.kept W.tables session.old) input.old
+        → OnOk result (Serves left left' taken (K.taken sink.new) (Stands W.kept W.tables session.new) input.new) }
     ensures cut { (left left' taken : Option (List ℕ))
-        → Serves left left' taken (K.taken sink.old) log.old input.old
+        → Serves left left' taken (K.taken sink.old) (Stands W.kept W.tables session.old) input.old
         → OnErr result (IsCutOff left left' taken (K.taken sink.new)) }
     ensures count { K.faults sink.old ≤ K.faults sink.new }
     ensures failed { IsErrOf result SinkNo.Failed → Rose (K.faults sink.old) (K.faults sink.new) }
 {
+    serving_laws::<Sql>();
     while let Some(n) = input.line_end() {
-        answer(alloc, log, input.front(n), sink)?;
+        answer(alloc, session, input.front(n), sink)?;
         input.pass(n + 1);
     }
     Ok(())
@@ -84,56 +89,69 @@ pub(crate) fn status_after(written: Result<(), SinkNo>, whole: Status) -> Status
 }
 
 /// Answers the whole lines that are held, and then asks for more. An `Err` ends the run.
-fn turn<S: Source, K: Sink>(
+fn turn<W: Working, S: Source, K: Sink>(
     alloc: Global,
-    log: &mut Bytes,
+    session: &mut OneSession<W>,
     input: &mut Input,
     source: &mut S,
     sink: &mut K,
 ) -> Result<(), Status>
-    requires { (rows : List Row) × HoldsRows log.old rows }
-    ensures rows { OnOk result ((rows : List Row) × HoldsRows log.new rows) }
+    requires { (t : TableState) × Stands W.kept W.tables session.old t }
+    ensures stands { OnOk result ((t : TableState) × Stands W.kept W.tables session.new t) }
     ensures more { OnOk result (input.old.taken < input.new.taken) }
     ensures few { OnOk result (input.new.taken ≤ 4194304) }
     ensures serves { (left taken : Option (List ℕ))
-        → Serves left (S.left source.old) taken (K.taken sink.old) log.old input.old
-        → OnOk result (Serves left (S.left source.new) taken (K.taken sink.new) log.new input.new) }
+        → Serves left (S.left source.old) taken (K.taken sink.old) (Stands W.kept W.tables session.old) input.old
+        → OnOk result (Serves left (S.left source.new) taken (K.taken sink.new) (Stands W.kept W.tables session.new) input.new) }
     ensures ends { (left taken : Option (List ℕ))
-        → Serves left (S.left source.old) taken (K.taken sink.old) log.old input.old
+        → Serves left (S.left source.old) taken (K.taken sink.old) (Stands W.kept W.tables session.old) input.old
         → IfErr result (λ status. Ends status left (S.left source.new) taken (K.taken sink.new)) }
     ensures cause { IfErr result (λ status. HasCause status
         (S.faults source.old) (S.faults source.new) (K.faults sink.old) (K.faults sink.new)) }
     ensures source_count { S.faults source.old ≤ S.faults source.new }
     ensures sink_count { K.faults sink.old ≤ K.faults sink.new }
 {
-    if let Err(no) = answer_held(alloc, log, input, sink) {
+    serving_laws::<Sql>();
+    if let Err(no) = answer_held(alloc, session, input, sink) {
         return Err(status_after(Err(no), Status::Done));
     }
     match input.fill(source) {
         Ok(Filled::More) => Ok(()),
-        Ok(Filled::End) => Err(status_after(answer(alloc, log, input.rest(), sink), Status::Done)),
+        Ok(Filled::End) => Err(status_after(
+            answer(alloc, session, input.rest(), sink),
+            Status::Done,
+        )),
         Ok(Filled::TooLong) => Err(status_after(write_piece(sink, b"too long\n"), Status::TooLong)),
         Err(ReadNo::Failed) => Err(Status::ReadFault),
         Err(ReadNo::WantOfMemory) => Err(Status::WantOfMemory),
     }
 }
 
-/// Answers the source's lines in their order, each before more is read. It takes at most 4,194,305
-/// bytes, and at most 65,536 with one read.
-pub(crate) fn serve<S: Source, K: Sink>(alloc: Global, source: &mut S, sink: &mut K) -> Status
+/// Answers the source's lines in their order over empty tables, each before more is read. It takes at most
+/// 4,194,305 bytes, and at most 65,536 with one read.
+pub(crate) fn serve_over<W: Working + Drop, S: Source, K: Sink>(
+    alloc: Global,
+    tables: W,
+    source: &mut S,
+    sink: &mut K,
+) -> Status
+    requires kept { W.kept tables empty }
+    requires tables { W.tables tables empty }
     ensures ends { Ends result
         (S.left source.old) (S.left source.new) (K.taken sink.old) (K.taken sink.new) }
     ensures cause { HasCause result
         (S.faults source.old) (S.faults source.new) (K.faults sink.old) (K.faults sink.new) }
 {
-    let Ok(mut log) = first_log(alloc) else {
-        return Status::WantOfMemory;
-    };
+    serving_laws::<Sql>();
     let Ok(mut input) = Input::new(alloc) else {
         return Status::WantOfMemory;
     };
+    let mut session = OneSession {
+        tables,
+        in_transaction: false,
+    };
     loop {
-        if let Err(status) = turn(alloc, &mut log, &mut input, source, sink) {
+        if let Err(status) = turn(alloc, &mut session, &mut input, source, sink) {
             return status;
         }
     }

@@ -1,4 +1,5 @@
-//! What no clause says: worked rows, vectors, and sources and sinks that fail.
-mod lines;
+//! What no clause says: worked rows, and sources and sinks that fail. The tables are ones that do no
+//! statement.
+mod no_tables;
 mod runs;
 mod streams;

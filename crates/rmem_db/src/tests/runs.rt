@@ -1,14 +1,15 @@
-use crate::running::run;
+use crate::running::run_over;
 use crate::status::Status;
+use crate::tests::no_tables::NoTables;
 use rm_base::Items;
 use rm_env::{MemSink, MemSource, QuietSink, QuietSource};
 use std::alloc::Global;
 use std::test::Fail;
 
-const ROW: &str =
-    "INSERT INTO t VALUES (2, 20)\nINSERT INTO t VALUES (1, 10)\nINSERT INTO t VALUES (2, 5)\nSELECT * FROM t\nselect * from t\n";
+const ROW: &str = "BEGIN\nBEGIN\nCOMMIT\nROLLBACK\nSELEC 1\nbegin;\nrollback\n";
 
-const ROW_OUTPUT: &str = "ok 1\nok 1\nerror duplicate 2\n1, 10\n2, 20\nrows 2\nerror unsupported\n";
+const ROW_OUTPUT: &str =
+    "ok 0\nerror in transaction\nok 0\nerror no transaction\nerror syntax at 0\nok 0\nok 0\n";
 
 /// The words `serve` alone.
 fn serve(alloc: Global) -> Result<Vec<String>, Fail> {
@@ -22,7 +23,7 @@ fn served(alloc: Global, input: &[u8], piece: usize) -> Result<(Status, Vec<u8>)
     let bytes = Items::from_vec(input.to_vec(alloc)?);
     let mut source = QuietSource::new(bytes).in_pieces(piece.max(1));
     let mut sink = QuietSink::new(alloc);
-    let status = run(alloc, &serve(alloc)?, &mut source, &mut sink);
+    let status = run_over(alloc, NoTables, &serve(alloc)?, &mut source, &mut sink);
     Ok((status, sink.taken().to_vec(alloc)?))
 }
 
@@ -47,15 +48,9 @@ fn lines_are_parted_at_line_feeds(rt: HostRuntime) -> Result<(), Fail> {
     for (input, want) in [
         ("", ""),
         ("\n \t\r\n\r\n   ", ""),
-        ("SELECT * FROM t", "rows 0\n"),
-        (
-            "x\n\nSELECT * FROM t\r\nSELECT * FROM t\n",
-            "error unsupported\nerror unsupported\nrows 0\n",
-        ),
-        (
-            "INSERT INTO t VALUES (5, 6)\nSELECT * FROM t",
-            "ok 1\n5, 6\nrows 1\n",
-        ),
+        ("COMMIT", "error no transaction\n"),
+        ("x\n\nBEGIN\r\nCOMMIT\n", "error syntax at 0\nok 0\nok 0\n"),
+        ("BEGIN\nROLLBACK", "ok 0\nok 0\n"),
     ] {
         for piece in [1, 3, 100] {
             let (status, output) = served(alloc, input.as_bytes(), piece)?;
@@ -70,67 +65,12 @@ fn lines_are_parted_at_line_feeds(rt: HostRuntime) -> Result<(), Fail> {
     Ok(())
 }
 
-const STATEMENTS: &str = "INSERT INTO t VALUES (0, -1)
-INSERT INTO t VALUES (-9223372036854775808, 9223372036854775807)
-INSERT INTO t VALUES (9223372036854775807, -9223372036854775808)
-SELECT * FROM t
-";
-
 #[test]
-fn rows_stand_by_ascending_key(rt: HostRuntime) -> Result<(), Fail> {
-    let (status, output) = served(rt.alloc(), STATEMENTS.as_bytes(), 65_536)?;
-    assert_eq!(rt; status, Status::Done);
-    let want =
-        "ok 1\nok 1\nok 1\n-9223372036854775808, 9223372036854775807\n0, -1\n9223372036854775807, -9223372036854775808\nrows 3\n";
-    assert_eq!(rt; output.as_slice(), want.as_bytes());
-    Ok(())
-}
-
-#[test]
-fn other_spellings_are_no_statements(rt: HostRuntime) -> Result<(), Fail> {
-    for line in [
-        "INSERT INTO t VALUES (9223372036854775808, 1)",
-        "INSERT INTO t VALUES (01, 1)",
-        "INSERT INTO t VALUES (-0, 1)",
-        "INSERT INTO t VALUES (+1, 1)",
-        "INSERT INTO t VALUES (1,1)",
-        "INSERT INTO t VALUES (1, 1) ",
-        "INSERT INTO t VALUES (1, )",
-        "INSERT INTO t VALUES (",
-        "insert into t values (1, 1)",
-        "SELECT * FROM t\r",
-        "SELECT * FROM u",
-        "CREATE TABLE t (k INT PRIMARY KEY, v INT)",
-    ] {
-        let (status, output) = served(rt.alloc(), line.as_bytes(), 65_536)?;
-        assert_eq!(rt; status, Status::Done);
-        assert_eq!(rt;
-            output.as_slice(),
-            b"error unsupported\n".as_slice(),
-            "at {line}"
-        );
-    }
-    Ok(())
-}
-
-#[test]
-fn a_full_table_takes_no_row(rt: HostRuntime) -> Result<(), Fail> {
-    let alloc = rt.alloc();
-    let mut input = String::new(alloc);
-    let mut want = String::new(alloc);
-    for key in 1..202 {
-        input.push_str(format!(in alloc; "INSERT INTO t VALUES ({key}, {key})\n")?.as_str())?;
-        want.push_str(if key < 201 {
-            "ok 1\n"
-        } else {
-            "error table full\n"
-        })?;
-    }
-    input.push_str("INSERT INTO t VALUES (7, 1)\n")?;
-    want.push_str("error duplicate 7\n")?;
-    let (status, output) = served(alloc, input.as_bytes(), 65_536)?;
-    assert_eq!(rt; status, Status::Done);
-    assert_eq!(rt; output.as_slice(), want.as_bytes());
+fn a_statement_that_wants_memory_ends_the_run(rt: HostRuntime) -> Result<(), Fail> {
+    let input = b"BEGIN\nSELECT * FROM t\nCOMMIT\n";
+    let (status, output) = served(rt.alloc(), input, 65_536)?;
+    assert_eq!(rt; status, Status::WantOfMemory);
+    assert_eq!(rt; output.as_slice(), b"ok 0\n".as_slice());
     Ok(())
 }
 
@@ -160,7 +100,7 @@ fn other_words_are_refused(rt: HostRuntime) -> Result<(), Fail> {
         let mut source = QuietSource::new(Items::from_vec(b"x\n".to_vec(alloc)?));
         let mut sink = QuietSink::new(alloc);
         assert_eq!(rt;
-            run(alloc, &words, &mut source, &mut sink),
+            run_over(alloc, NoTables, &words, &mut source, &mut sink),
             Status::BadWords
         );
         assert_eq!(rt; sink.taken(), b"bad words\n".as_slice());
@@ -171,9 +111,9 @@ fn other_words_are_refused(rt: HostRuntime) -> Result<(), Fail> {
 /// The status of a run over the worked row, and how many bytes of its output the sink took.
 fn broken(alloc: Global, read_fails: u64, write_fails: u64) -> Result<(Status, usize, bool), Fail> {
     let bytes = Items::from_vec(ROW.as_bytes().to_vec(alloc)?);
-    let mut source = MemSource::new(bytes, vec![in alloc; read_fails]?).in_pieces(40);
+    let mut source = MemSource::new(bytes, vec![in alloc; read_fails]?).in_pieces(20);
     let mut sink = MemSink::new(alloc, vec![in alloc; write_fails]?);
-    let status = run(alloc, &serve(alloc)?, &mut source, &mut sink);
+    let status = run_over(alloc, NoTables, &serve(alloc)?, &mut source, &mut sink);
     let taken = sink.taken();
     Ok((
         status,
@@ -184,16 +124,16 @@ fn broken(alloc: Global, read_fails: u64, write_fails: u64) -> Result<(Status, u
 
 #[test]
 fn a_failing_read_leaves_the_replies_to_whole_lines(rt: HostRuntime) -> Result<(), Fail> {
-    // The row comes in 3 reads of at most 40 bytes, and the fourth finds the end.
+    // The row comes in 3 reads of at most 20 bytes, and the fourth finds the end.
     for (call, end, taken) in [
         (1, Status::ReadFault, 0),
-        (2, Status::ReadFault, 5),
-        (3, Status::ReadFault, 10),
-        (4, Status::ReadFault, 65),
-        (5, Status::Done, 65),
-        (6, Status::Done, 65),
-        (7, Status::Done, 65),
-        (8, Status::Done, 65),
+        (2, Status::ReadFault, 31),
+        (3, Status::ReadFault, 70),
+        (4, Status::ReadFault, 80),
+        (5, Status::Done, 80),
+        (6, Status::Done, 80),
+        (7, Status::Done, 80),
+        (8, Status::Done, 80),
     ] {
         assert_eq!(rt;
             broken(rt.alloc(), call, 0)?,
@@ -210,12 +150,12 @@ fn a_failing_write_leaves_the_pieces_before_it(rt: HostRuntime) -> Result<(), Fa
     for (call, end, taken) in [
         (1, Status::WriteFault, 0),
         (2, Status::WriteFault, 5),
-        (3, Status::WriteFault, 10),
-        (4, Status::WriteFault, 28),
-        (5, Status::WriteFault, 34),
-        (6, Status::WriteFault, 40),
-        (7, Status::WriteFault, 47),
-        (8, Status::Done, 65),
+        (3, Status::WriteFault, 26),
+        (4, Status::WriteFault, 31),
+        (5, Status::WriteFault, 52),
+        (6, Status::WriteFault, 70),
+        (7, Status::WriteFault, 75),
+        (8, Status::Done, 80),
     ] {
         assert_eq!(rt;
             broken(rt.alloc(), 0, call)?,
@@ -232,7 +172,7 @@ fn a_sink_may_take_a_byte_at_a_time(rt: HostRuntime) -> Result<(), Fail> {
     let bytes = Items::from_vec(ROW.as_bytes().to_vec(alloc)?);
     let mut source = QuietSource::new(bytes);
     let mut sink = MemSink::new(alloc, Vec::new(alloc)).in_pieces(1);
-    let status = run(alloc, &serve(alloc)?, &mut source, &mut sink);
+    let status = run_over(alloc, NoTables, &serve(alloc)?, &mut source, &mut sink);
     assert_eq!(rt; status, Status::Done);
     assert_eq!(rt; sink.taken(), ROW_OUTPUT.as_bytes());
     Ok(())

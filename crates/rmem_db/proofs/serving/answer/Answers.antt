@@ -1,21 +1,23 @@
-use Rattle.std.proofs.Common.{sym, ap, ◌∙◌, subst}
+use Rattle.std.proofs.Common.{[], ◌∷◌, sym, ◌∙◌}
 use Rattle.std.proofs.lemmas.Result.{on_ok_weaker, on_err_weaker}
-use Rattle.std.specs.Io.KnownBytes.{Appends}
-use Rattle.rmem_db.specs.Writing.{AppendsFront}
-use Rattle.rmem_db.specs.Replies.{reply_text}
-use Rattle.rmem_db.proofs.OutputLaws.{Appends-blank, output-filled_one}
+use Rattle.rmem_db.specs.Lines.{filled}
+use Rattle.rmem_db.specs.Session.{Stands}
+use Rattle.rmem_db.proofs.KnownText.{OnErr-any}
+use Rattle.rmem_db.proofs.OneLine.{Answered-blank, Answered-one, StoppedIn-none, StoppedIn-one}
 use Rattle.rmem_db.proofs.serving.answer.Goals as goal
 
 pub returns-then-is_blank-clause-ok : goal.returns-then-is_blank-clause-ok
-returns-then-is_blank-clause-ok g c = λ rows h.
-    Appends-blank (g.K.Sink.taken c.args.sink.now) rows c.args.line.now (sym c.is_blank.ensures ∙ c.if-is_blank.true)
+returns-then-is_blank-clause-ok g c = λ t h.
+    Answered-blank t c.args.line.now (Stands g.W.TableStore.kept g.W.TableStore.tables c.args.session.now) (g.K.Sink.taken c.args.sink.now) (sym c.is_blank.ensures ∙ c.if-is_blank.true) h
+
+pub returns-in_err-reply-clause-err : goal.returns-in_err-reply-clause-err
+returns-in_err-reply-clause-err g c = λ t h.
+    OnErr-any _ (StoppedIn-none t (filled (c.args.line.now ∷ [])) (g.K.Sink.taken c.args.sink.now))
 
 pub returns-clause-ok : goal.returns-clause-ok
-returns-clause-ok g c = λ rows h.
-    let same = ap reply_text (c.in_ok-reply.ensures.answers rows h).reply ∙ sym (output-filled_one rows c.args.line.now (sym c.is_blank.ensures ∙ c.if-is_blank.false)) in
-    on_ok_weaker c.write_reply.result (λ w. subst (Appends _ _) same w) c.write_reply.ensures.ok
+returns-clause-ok g c = λ t h.
+    on_ok_weaker c.write_reply.result (Answered-one g.W.TableStore.kept g.W.TableStore.tables t c.args.line.now _ _ (c.in_ok-reply.ensures t h) (sym c.is_blank.ensures ∙ c.if-is_blank.false) _ _) c.write_reply.ensures.ok
 
 pub returns-clause-err : goal.returns-clause-err
-returns-clause-err g c = λ rows h.
-    let same = ap reply_text (c.in_ok-reply.ensures.answers rows h).reply ∙ sym (output-filled_one rows c.args.line.now (sym c.is_blank.ensures ∙ c.if-is_blank.false)) in
-    on_err_weaker c.write_reply.result (λ w. subst (AppendsFront _ _) same w) c.write_reply.ensures.err
+returns-clause-err g c = λ t h.
+    on_err_weaker c.write_reply.result (StoppedIn-one g.W.TableStore.kept g.W.TableStore.tables t c.args.line.now _ _ (c.in_ok-reply.ensures t h) (sym c.is_blank.ensures ∙ c.if-is_blank.false) _ _) c.write_reply.ensures.err

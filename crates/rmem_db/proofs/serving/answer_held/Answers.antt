@@ -1,7 +1,8 @@
 use Rattle.std.proofs.Common.{◌≡◌, ◌+◌, ◌∷◌, [], List, ℕ, ap, ◌∙◌, arith, take, drop}
 use Rattle.rmem_db.specs.Lines.{filled}
 use Rattle.rmem_db.specs.Reading.{Held}
-use Rattle.rmem_db.specs.Table.{rows_after_all}
+use Rattle.rmem_db.specs.Serving.{Answered}
+use Rattle.rmem_db.specs.Session.{Stands}
 use Rattle.rmem_db.proofs.KnownText.{OnErr-any}
 use Rattle.rmem_db.proofs.ServingLaws.{Serves-line, IsCutOff-line}
 use Rattle.rmem_db.proofs.serving.answer_held.Goals as goal
@@ -14,12 +15,13 @@ loop-n-preserved g c =
     let is : line ≡ take n held.bytes = c.front.ensures ∙ ap (λ (h : Held). take n h.bytes) c.line_end.ensures.same in
     let same : c.pass.new.self.taken ≡ held.taken = ap (λ (h : Held). h.taken) c.pass.ensures ∙ ap (λ (h : Held). h.taken) c.line_end.ensures.same in
     let bytes : c.pass.new.self.bytes ≡ drop (n + 1) held.bytes = ap (λ (h : Held). h.bytes) c.pass.ensures ∙ ap (λ (h : Held). drop (n + 1) h.bytes) c.line_end.ensures.same in
+    let told = c.in_ok-answer.ensures.ok c.loop-n.invariant.stands.0 c.loop-n.invariant.stands.1 in
     record {
-      rows = (rows_after_all c.loop-n.invariant.rows.0 (filled (line ∷ [])), c.in_ok-answer.ensures.rows c.loop-n.invariant.rows.0 c.loop-n.invariant.rows.1);
+      stands = (told.new, told.stands);
       taken = same ∙ c.loop-n.invariant.taken;
       serves = λ left left' taken before.
-          Serves-line left left' taken _ c.loop-n.log held (c.loop-n.invariant.serves left left' taken before) n c.in-Some.ensures.found line is
-          c.answer.new.log _ c.pass.new.self c.in_ok-answer.ensures.rows c.in_ok-answer.ensures.ok bytes same;
+          Serves-line c.serving_laws.ensures.more_turns c.serving_laws.ensures.lines left left' taken _ (Stands g.W.TableStore.kept g.W.TableStore.tables c.loop-n.session) held (c.loop-n.invariant.serves left left' taken before) n c.in-Some.ensures.found line is
+          (Stands g.W.TableStore.kept g.W.TableStore.tables c.answer.new.session) _ c.pass.new.self c.in_ok-answer.ensures.ok bytes same;
       count = omega (arith, c.in_ok-answer.ensures.count);
     }
 
@@ -29,5 +31,5 @@ returns-in_err-answer-clause-cut g c = λ left left' taken before.
     let held : Held = c.loop-n.input in
     let line : List ℕ = c.front.result.now in
     let is : line ≡ take n held.bytes = c.front.ensures ∙ ap (λ (h : Held). take n h.bytes) c.line_end.ensures.same in
-    OnErr-any _ (IsCutOff-line left left' taken _ c.loop-n.log held (c.loop-n.invariant.serves left left' taken before) n c.in-Some.ensures.found line is
+    OnErr-any _ (IsCutOff-line c.serving_laws.ensures.more_turns c.serving_laws.ensures.lines left left' taken _ (Stands g.W.TableStore.kept g.W.TableStore.tables c.loop-n.session) held (c.loop-n.invariant.serves left left' taken before) n c.in-Some.ensures.found line is
     _ c.in_err-answer.ensures.err)

@@ -1,0 +1,117 @@
+ghost use Rattle.std.specs.Prelude.{◌≡◌, ◌↔◌, IsTrue, IfOk, Ok};
+ghost use Rattle.sql_exec.specs.Answer.{IsEvaluated};
+ghost use Rattle.sql_engine.specs.Executed.{MakesTable};
+ghost use Rattle.session_state.specs.Serving.{Evaluates, GivesBack, Keeps, Opens, TableState, Turn};
+ghost use Rattle.rmem_db.specs.Session.{Stands, Takes, TakesTurn};
+
+use crate::language::Sql;
+use crate::tables::Working;
+use rm_base::WantOfMemory;
+use session_state::serving_laws;
+use sql_engine::execute;
+use sql_exec::SqlReply;
+use sql_front::{created_tables, parse};
+use sql_statements::Stmt;
+use std::alloc::Global;
+
+/// Whether there was no room.
+fn is_full(reply: &SqlReply) -> bool
+    ensures { IsTrue result ↔ (reply.now ≡ SqlReply.SpaceFull) }
+{
+    matches!(reply, SqlReply::SpaceFull)
+}
+
+/// The tables of the one session, and whether a BEGIN opened a transaction.
+#[derive(Drop)]
+pub(crate) struct OneSession<W> {
+    pub tables: W,
+    pub in_transaction: bool,
+}
+
+impl<W: Working> OneSession<W> {
+    /// BEGIN.
+    fn begin(&mut self) -> SqlReply
+        ensures { (t : TableState) → Stands W.kept W.tables self.old t → Takes W.kept W.tables (Opens t) self.new result }
+    {
+        if self.in_transaction {
+            return SqlReply::InTransaction;
+        }
+        self.in_transaction = true;
+        SqlReply::Ok(0)
+    }
+
+    /// COMMIT.
+    fn commit(&mut self) -> SqlReply
+        ensures { (t : TableState) → Stands W.kept W.tables self.old t → Takes W.kept W.tables (Keeps t) self.new result }
+    {
+        if self.in_transaction {
+            self.tables.keep();
+            self.in_transaction = false;
+            return SqlReply::Ok(0);
+        }
+        SqlReply::NoTransaction
+    }
+
+    /// ROLLBACK.
+    fn roll_back(&mut self) -> SqlReply
+        ensures { (t : TableState) → Stands W.kept W.tables self.old t → Takes W.kept W.tables (GivesBack t) self.new result }
+    {
+        if self.in_transaction {
+            self.tables.give_back();
+            self.in_transaction = false;
+            return SqlReply::Ok(0);
+        }
+        SqlReply::NoTransaction
+    }
+
+    /// Any other statement. Its changes join those of the open transaction or are kept at once; where there
+    /// is no room for them, they go, and the open transaction with them.
+    fn do_other(&mut self, alloc: Global, statement: &Stmt) -> Result<SqlReply, WantOfMemory>
+        requires some { (t : TableState) × Stands W.kept W.tables self.old t }
+        requires kind { IsEvaluated statement.now }
+        requires made { MakesTable statement.now }
+        ensures { (t : TableState) → Stands W.kept W.tables self.old t
+            → IfOk result (Takes W.kept W.tables (Evaluates statement.now t) self.new) }
+    {
+        serving_laws::<Sql>();
+        let reply = execute(alloc, &mut self.tables, statement)?;
+        if is_full(&reply) {
+            self.tables.give_back();
+            self.in_transaction = false;
+            return Ok(reply);
+        }
+        if self.in_transaction {
+            return Ok(reply);
+        }
+        self.tables.keep();
+        Ok(reply)
+    }
+
+    /// A statement.
+    fn obey(&mut self, alloc: Global, statement: &Stmt) -> Result<SqlReply, WantOfMemory>
+        requires some { (t : TableState) × Stands W.kept W.tables self.old t }
+        requires made { MakesTable statement.now }
+        ensures { (t : TableState) → Stands W.kept W.tables self.old t
+            → IfOk result (Takes W.kept W.tables (Turn (Ok statement.now) t) self.new) }
+    {
+        match statement {
+            Stmt::Begin => Ok(self.begin()),
+            Stmt::Commit => Ok(self.commit()),
+            Stmt::Rollback => Ok(self.roll_back()),
+            _ => self.do_other(alloc, statement),
+        }
+    }
+
+    /// A line. After an `Err` nothing is said of the session.
+    pub fn answer(&mut self, alloc: Global, line: &[u8]) -> Result<SqlReply, WantOfMemory>
+        requires { (t : TableState) × Stands W.kept W.tables self.old t }
+        ensures { (t : TableState) → Stands W.kept W.tables self.old t
+            → IfOk result (TakesTurn W.kept W.tables line.now t self.new) }
+    {
+        created_tables();
+        match parse(alloc, line)? {
+            Ok(statement) => self.obey(alloc, &statement),
+            Err(syntax) => Ok(SqlReply::Syntax(syntax.at)),
+        }
+    }
+}

@@ -1,0 +1,16 @@
+use sql_engine::TableStore;
+
+/// A store of tables whose changes are kept or given back. `kept` says which database stands without them.
+pub trait Working: TableStore {
+    ghost use Rattle.sql_exec.specs.Applied.{Database};
+
+    /// Keeps the changes.
+    fn keep(&mut self)
+        ensures kept { (d : Database) → Self.tables self.old d → Self.kept self.new d }
+        ensures tables { (d : Database) → Self.tables self.old d → Self.tables self.new d };
+
+    /// Gives the changes back. Nothing need be known of the tables with them.
+    fn give_back(&mut self)
+        ensures kept { (k : Database) → Self.kept self.old k → Self.kept self.new k }
+        ensures tables { (k : Database) → Self.kept self.old k → Self.tables self.new k };
+}
