@@ -81,7 +81,7 @@ fn an_input_past_the_limit_is_too_long(rt: HostRuntime) -> Result<(), Fail> {
         (4_194_304, Status::Done, ""),
         (4_194_305, Status::TooLong, "too long\n"),
     ] {
-        let input = vec![in alloc; b'\n'; length]?;
+        let input = vec![in alloc; b' '; length]?;
         let (status, output) = served(alloc, input.as_slice(), 65_536)?;
         assert_eq!(rt; status, end);
         assert_eq!(rt; output.as_slice(), want.as_bytes());
