@@ -1,0 +1,45 @@
+-- The database that the pages hold.
+use Rattle.std.specs.Prelude.{◌≡◌, ◌≢◌, ℕ, List, codes, Option, Some, None, Contains, option_map}
+use Rattle.std.specs.List.{AllByRecursion}
+use Rattle.page_image.specs.Image.{Image}
+use Rattle.page_store.specs.declared.TheConstants.{ROOT_PAGE}
+use Rattle.tree_store.specs.Forest.{Forest}
+use Rattle.sql_values.specs.declared.schemas.Schema.{Schema}
+use Rattle.sql_values.specs.declared.values.Value.{Value}
+use Rattle.row_codec.specs.Keys.{key_bytes}
+use Rattle.row_codec.specs.Records.{IsRecord, key_cell, value_bytes}
+use Rattle.sql_catalog.specs.Catalog.{IsTable, AreBounded}
+use Rattle.sql_meaning.specs.Names.{table_named}
+use Rattle.sql_exec.specs.Applied.{Database}
+use Rattle.paged_tables.specs.Items.{Entry, entry_items, entry_named, row_items}
+
+-- a row of the schema that an item can hold
+abbrev pub IsStored : Schema → List Value → Type 0
+IsStored schema row = IsRecord schema row (key_bytes (key_cell schema.key row)) (value_bytes schema.key row)
+
+-- a table that an item of the catalog can hold
+pub record IsEntry (e : Entry) : Type 0 where
+  pub table : IsTable e.schema
+  pub bounded : AreBounded e.schema e.root
+
+-- the tree of a table has its rows, and is not that of the catalog
+pub record HoldsRows (roots : List ℕ) (items : ℕ → List (List ℕ)) (e : Entry) (rows : List (List Value)) : Type 0 where
+  pub rooted : Contains roots e.root
+  pub other : e.root ≢ ROOT_PAGE
+  pub items_are : items e.root ≡ row_items e.schema.key rows
+  pub stored : AllByRecursion (IsStored e.schema) rows
+
+-- Trees stand side by side on the pages. The tree of the catalog has an item for each table, with its schema and the
+-- root of its own tree, which has the table's rows by their keys. No two tables have one tree.
+pub record Holds (pages : ℕ → Image) (d : Database) : Type 0 where
+  pub roots : List ℕ
+  pub items : ℕ → List (List ℕ)
+  pub forest : Forest pages roots items
+  pub entries : List Entry
+  pub rooted : Contains roots ROOT_PAGE
+  pub catalog : items ROOT_PAGE ≡ entry_items entries
+  pub each : AllByRecursion IsEntry entries
+  pub schemas : (t : List ℕ) → table_named d.schemas t ≡ option_map (λ e. e.schema) (entry_named entries t)
+  pub tables : (t : List ℕ) (e : Entry) → entry_named entries t ≡ Some e → HoldsRows roots items e (d.tables t)
+  pub apart : (t u : List ℕ) (e f : Entry) → entry_named entries t ≡ Some e → entry_named entries u ≡ Some f → e.root ≡ f.root → t ≡ u
+  pub word : table_named d.schemas (codes "table") ≡ None
