@@ -1,3 +1,4 @@
 pub mod ItemLaws
 pub mod EntryLaws
 pub mod HoldLaws
+pub mod ReadLaws

@@ -1,2 +1,3 @@
 pub mod Items
+pub mod Catalog
 pub mod Content
