@@ -2,3 +2,4 @@ pub mod ItemLaws
 pub mod EntryLaws
 pub mod HoldLaws
 pub mod ReadLaws
+pub mod CatalogLaws

@@ -1,0 +1,14 @@
+use Rattle.std.proofs.Common.{ℕ, List, sym, subst}
+use Rattle.sql_values.specs.declared.schemas.Schema.{Schema}
+use Rattle.sql_values.specs.declared.values.Value.{Value}
+use Rattle.row_codec.specs.Keys.{key_bytes}
+use Rattle.row_codec.specs.Records.{key_cell, record_length, value_bytes}
+use Rattle.sql_catalog.specs.Catalog.{catalog_row}
+use Rattle.paged_tables.proofs.CatalogLaws.{entry_short, not_refused}
+use Rattle.paged_tables.proofs.catalog.entry_item.Goals as goal
+
+pub unreachable-requires : goal.unreachable-requires
+unreachable-requires c =
+    let value = not_refused c.in_ok-catalog.catalog c.in_ok-row.row c.args.schema.now c.args.root c.in_ok-value.field-0 c.in_ok-catalog.ensures c.in_ok-row.ensures
+    c.requires.table c.requires.bounded c.in_ok-value.ensures in
+    absurd cc
