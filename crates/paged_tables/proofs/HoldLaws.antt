@@ -22,6 +22,7 @@ use Rattle.sql_exec.specs.declared.changes.Change.{Change}
 use Rattle.sql_exec.specs.Applied.{Database, empty, key_place, row_key, placed, with_rows, with_row, with_table}
 use Rattle.sql_engine.specs.Sound.{IsRow, IsSound}
 use Rattle.paged_tables.specs.Items.{Entry, entry_item, entry_items, entry_named, row_item, row_items}
+use Rattle.paged_tables.specs.Changes.{changed_items}
 use Rattle.paged_tables.specs.Content.{IsStored, IsEntry, HoldsRows, Holds}
 use Rattle.paged_tables.proofs.ItemLaws.{row_key_of, row_placed, none_placed}
 use Rattle.paged_tables.proofs.EntryLaws.{same_name, name_is, other_name, name_cases, each_found, found_name, with_entry, named_same, named_other, filter_all, both_all, each_with_entry, items_with_entry}
@@ -118,10 +119,6 @@ placed_stored schema key_of key row rows here stored =
     (filter_all (IsStored schema) (λ r. is_lt (text_cmp (key_of r) key)) rows stored)
     (both_all (IsStored schema) (option_to_list row) (filter (λ r. is_gt (text_cmp (key_of r) key)) rows) here
     (filter_all (IsStored schema) (λ r. is_gt (text_cmp (key_of r) key)) rows stored))
-
--- the items that a row change leaves
-abbrev pub changed_items : ℕ → Change → List (List ℕ) → List (List ℕ)
-changed_items k c items = option_map_or (λ row. with_item c.key (row_item k row) items) c.row (without_item c.key items)
 
 items_placed : (k : ℕ) (key : List ℕ) (row : Option (List Value)) (rows : List (List Value))
     → row_items k (placed (row_key_of k) key row rows) ≡ option_map_or (λ r. with_item key (row_item k r) (row_items k rows)) row (without_item key (row_items k rows))

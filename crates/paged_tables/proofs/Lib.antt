@@ -3,3 +3,4 @@ pub mod EntryLaws
 pub mod HoldLaws
 pub mod ReadLaws
 pub mod CatalogLaws
+pub mod RowLaws

@@ -3,6 +3,7 @@ use Rattle.std.specs.Prelude.{◌≡◌, ◌≢◌, ℕ, List, codes, Option, So
 use Rattle.std.specs.List.{AllByRecursion}
 use Rattle.page_image.specs.Image.{Image}
 use Rattle.page_store.specs.declared.TheConstants.{ROOT_PAGE}
+use Rattle.page_store.specs.Stored.{Stored, pages_of, given_back}
 use Rattle.tree_store.specs.Forest.{Forest}
 use Rattle.sql_values.specs.declared.schemas.Schema.{Schema}
 use Rattle.sql_values.specs.declared.values.Value.{Value}
@@ -43,3 +44,10 @@ pub record Holds (pages : ℕ → Image) (d : Database) : Type 0 where
   pub tables : (t : List ℕ) (e : Entry) → entry_named entries t ≡ Some e → HoldsRows roots items e (d.tables t)
   pub apart : (t u : List ℕ) (e f : Entry) → entry_named entries t ≡ Some e → entry_named entries u ≡ Some f → e.root ≡ f.root → t ≡ u
   pub word : table_named d.schemas (codes "table") ≡ None
+
+-- the database that a store has, with the changes that can be given back, and without them
+abbrev pub HoldsNow : Stored → Database → Type 0
+HoldsNow s d = Holds (pages_of s) d
+
+abbrev pub HoldsKept : Stored → Database → Type 0
+HoldsKept s d = Holds (pages_of (given_back s)) d

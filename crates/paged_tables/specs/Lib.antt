@@ -1,3 +1,4 @@
 pub mod Items
 pub mod Catalog
+pub mod Changes
 pub mod Content

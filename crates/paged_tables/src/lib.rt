@@ -5,3 +5,4 @@
 mod catalog;
 mod items;
 mod reading;
+mod rows;
