@@ -6,3 +6,6 @@ mod catalog;
 mod items;
 mod reading;
 mod rows;
+mod tables;
+
+pub use tables::PagedTables;

@@ -5,7 +5,7 @@ ghost use Rattle.bplus_tree.specs.Found.{items_of};
 ghost use Rattle.bplus_tree.specs.Walk as walk;
 ghost use Rattle.tree_change.specs.Pages.{HasRows};
 ghost use Rattle.page_store.specs.Stored.{pages_of};
-ghost use Rattle.tree_store.specs.Forest.{Forest};
+ghost use Rattle.tree_store.specs.Forest.{Forest, IsRoot};
 ghost use Rattle.sql_meaning.specs.Ranges.{is_past, is_before};
 ghost use Rattle.sql_meaning.specs.Ranges as ranges;
 
@@ -155,7 +155,7 @@ pub(crate) fn items_in(
     root: PageId,
     range: &KeyRange,
 ) -> Result<LeafItems, WantOfMemory>
-    requires { (roots : List ℕ) × (items : ℕ → List (List ℕ)) × Forest (pages_of store.now) roots items × Contains roots root }
+    requires { IsRoot (pages_of store.now) root }
     ensures spelled { (roots : List ℕ) (items : ℕ → List (List ℕ)) → Forest (pages_of store.now) roots items → Contains roots root
         → IfOk result (λ found. map leaf_bytes found ≡ filter (walk.in_range range.now.low range.now.high) (items root)) }
     ensures are_leaves { IfOk result (AllByRecursion IsLeaf) }

@@ -4,7 +4,7 @@ ghost use Rattle.sql_values.specs.declared.values.Value.{Value};
 ghost use Rattle.page_view.specs.Leaf.{IsLeaf, leaf_bytes};
 ghost use Rattle.page_store.specs.Stored.{pages_of};
 ghost use Rattle.tree_change.specs.Effects.{with_item};
-ghost use Rattle.tree_store.specs.Forest.{Forest, with_tree};
+ghost use Rattle.tree_store.specs.Forest.{Forest, IsRoot, with_tree};
 ghost use Rattle.row_codec.specs.Records.{IsRecord, value_bytes};
 ghost use Rattle.sql_engine.specs.Sound.{IsPlaced};
 ghost use Rattle.paged_tables.specs.Items.{row_item, row_items};
@@ -63,10 +63,10 @@ fn put_row(
     key: &Bytes,
     row: &Row,
 ) -> Result<Result<(), TreeNo>, WantOfMemory>
-    requires forest { (roots : List ℕ) × (items : ℕ → List (List ℕ)) × Forest (pages_of store.old) roots items × Contains roots root }
+    requires forest { IsRoot (pages_of store.old) root }
     requires stored { IsRecord schema.now row.now key.now (value_bytes schema.now.key row.now) }
     ensures ok { (roots : List ℕ) (items : ℕ → List (List ℕ)) → Forest (pages_of store.old) roots items → Contains roots root
-        → IfOk result (λ answer. IfOk answer (λ done.
+        → IfOk result (λ answer. OnOk answer (
         Forest (pages_of store.new) roots (with_tree items root (with_item key.now (row_item schema.now.key row.now) (items root))))) }
     ensures kept { OnOk result (store.new.kept ≡ store.old.kept) }
 {
@@ -84,11 +84,11 @@ pub(crate) fn change_tree(
     root: PageId,
     change: &Change,
 ) -> Result<Result<(), TreeNo>, WantOfMemory>
-    requires forest { (roots : List ℕ) × (items : ℕ → List (List ℕ)) × Forest (pages_of store.old) roots items × Contains roots root }
+    requires forest { IsRoot (pages_of store.old) root }
     requires short { length change.now.key ≤ 64 }
     requires placed { IsPlaced schema.now change.now.key change.now.row }
     ensures ok { (roots : List ℕ) (items : ℕ → List (List ℕ)) → Forest (pages_of store.old) roots items → Contains roots root
-        → IfOk result (λ answer. IfOk answer (λ done.
+        → IfOk result (λ answer. OnOk answer (
         Forest (pages_of store.new) roots (with_tree items root (changed_items schema.now.key change.now (items root))))) }
     ensures kept { OnOk result (store.new.kept ≡ store.old.kept) }
 {
