@@ -1,5 +1,5 @@
 -- Tables as items of the catalog, and back.
-use Rattle.std.proofs.Common.{◌≡◌, ◌≢◌, ◌≤◌, ◌<◌, ◌+◌, ◌*◌, ◌^◌, ℕ, Bool, true, false, cond, List, [], ◌∷◌, ◌++◌, length, map, take, drop, Option, Some, None, Result, Ok, Err, refl, sym, ap, subst, ◌∙◌, length-append, append-nil, arith}
+use Rattle.std.proofs.Common.{◌≡◌, ◌≤◌, ◌+◌, ◌*◌, ℕ, Bool, true, false, cond, List, [], ◌∷◌, ◌++◌, length, map, Option, Some, None, Result, Ok, Err, refl, sym, ap, subst, ◌∙◌, length-append, append-nil, arith}
 use Rattle.std.specs.Prelude.{◌&&◌, filter, find, slice_get, bytes_eq, Contains}
 use Rattle.std.specs.Result.{OkIff}
 use Rattle.std.specs.List.{AllByRecursion}
@@ -21,7 +21,6 @@ use Rattle.sql_values.specs.declared.values.Value.{Value}
 use Rattle.sql_values.specs.Order.{text_cmp}
 use Rattle.page_view.specs.declared.leaf.LeafItem.{LeafItem}
 use Rattle.page_view.specs.Leaf.{leaf_bytes, IsLeaf}
-use Rattle.page_view.specs.Keys.{key_in}
 use Rattle.page_view.proofs.LeafLaws.{one_leaf}
 use Rattle.bplus_tree.specs.Walk as walk
 use Rattle.row_codec.specs.Keys.{key_bytes}

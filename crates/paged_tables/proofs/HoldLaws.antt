@@ -1,11 +1,10 @@
 -- What each change makes of the database that pages hold.
-use Rattle.std.proofs.Common.{◌≡◌, ◌≢◌, ◌≤◌, ◌<◌, ℕ, Bool, true, false, cond, nat_eq, List, [], ◌∷◌, ◌++◌, map, Option, Some, None, ◌⊎◌, inl, inr, refl, sym, ap, subst, ◌∙◌, arith}
+use Rattle.std.proofs.Common.{◌≡◌, ◌≢◌, ℕ, Bool, true, false, cond, nat_eq, List, [], ◌∷◌, ◌++◌, Option, Some, None, inl, inr, refl, sym, ap, subst, ◌∙◌, arith}
 use mathlib.Core.Path.{fun_ext}
-use Rattle.std.specs.Prelude.{filter, find, bytes_eq, codes, option_map, option_to_list, Contains}
+use Rattle.std.specs.Prelude.{filter, bytes_eq, codes, option_map, option_to_list, Contains}
 use Rattle.std.specs.Option.{option_or, option_map_or}
 use Rattle.std.specs.List.{AllByRecursion}
 use Rattle.std.specs.Ordering.{is_lt, is_gt}
-use Rattle.std.proofs.lemmas.Bool.{cases_eq}
 use Rattle.std.proofs.lemmas.Bool.Decides.{nat_tests}
 use Rattle.std.proofs.lemmas.List.Elements.{Contains-push, Contains-append_left}
 use Rattle.std.proofs.lemmas.List.Folds.{find-append}
@@ -16,16 +15,15 @@ use Rattle.sql_values.specs.declared.values.Value.{Value}
 use Rattle.sql_values.specs.Order.{text_cmp}
 use Rattle.tree_change.specs.Effects.{with_item, without_item}
 use Rattle.tree_store.specs.Forest.{Forest, with_tree}
-use Rattle.row_codec.specs.Records.{IsRecord}
 use Rattle.sql_meaning.specs.Names.{table_named}
 use Rattle.sql_exec.specs.declared.changes.Change.{Change}
 use Rattle.sql_exec.specs.Applied.{Database, empty, key_place, row_key, placed, with_rows, with_row, with_table}
 use Rattle.sql_engine.specs.Sound.{IsRow, IsSound}
-use Rattle.paged_tables.specs.Items.{Entry, entry_item, entry_items, entry_named, row_item, row_items}
+use Rattle.paged_tables.specs.Items.{Entry, entry_item, entry_named, row_item, row_items}
 use Rattle.paged_tables.specs.Changes.{changed_items}
 use Rattle.paged_tables.specs.Content.{IsStored, IsEntry, HoldsRows, Holds}
 use Rattle.paged_tables.proofs.ItemLaws.{row_key_of, row_placed, none_placed}
-use Rattle.paged_tables.proofs.EntryLaws.{same_name, name_is, other_name, name_cases, each_found, found_name, with_entry, named_same, named_other, filter_all, both_all, each_with_entry, items_with_entry}
+use Rattle.paged_tables.proofs.EntryLaws.{same_name, name_is, other_name, name_cases, with_entry, named_same, named_other, filter_all, both_all, each_with_entry, items_with_entry}
 
 -- ---- pages that are the same
 

@@ -4,3 +4,4 @@ pub mod HoldLaws
 pub mod ReadLaws
 pub mod CatalogLaws
 pub mod RowLaws
+pub mod TableLaws

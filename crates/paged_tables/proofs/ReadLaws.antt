@@ -1,5 +1,5 @@
 -- Reading the items of leaves.
-use Rattle.std.proofs.Common.{◌≡◌, ◌≢◌, ◌<◌, ◌+◌, ℕ, zero, suc, Bool, true, false, cond, List, [], ◌∷◌, ◌++◌, length, map, take, get_or, Option, Some, None, Result, Ok, Err, IfOk, refl, sym, ap, subst, ◌∙◌, append_assoc, append-nil, arith}
+use Rattle.std.proofs.Common.{◌≡◌, ◌+◌, ℕ, zero, suc, Bool, cond, List, [], ◌∷◌, ◌++◌, length, take, Option, Some, None, Result, Ok, Err, IfOk, refl, sym, ap, subst, ◌∙◌, append_assoc, arith}
 use Rattle.std.specs.Prelude.{filter, slice_get, IsSome}
 use Rattle.std.specs.List.{AllByRecursion}
 use Rattle.std.proofs.lemmas.List.{take_at}
@@ -7,7 +7,7 @@ use Rattle.std.proofs.lemmas.List.Elements.{filter-append}
 use Rattle.rm_base.specs.Fields.{AreBytes}
 use Rattle.rm_base.specs.declared.key_range.KeyRange.{KeyRange}
 use Rattle.page_view.specs.declared.leaf.LeafItem.{LeafItem}
-use Rattle.page_view.specs.Leaf.{leaf_bytes, leaf_of, IsLeaf, HoldsLeaf, IsLeafOrNone}
+use Rattle.page_view.specs.Leaf.{leaf_bytes, leaf_of, HoldsLeaf, IsLeafOrNone}
 use Rattle.page_view.specs.Keys.{key_in}
 use Rattle.page_view.proofs.LeafLaws.{leaf_reads}
 use Rattle.bplus_tree.specs.Walk as walk

@@ -1,5 +1,5 @@
 -- The database that the pages hold.
-use Rattle.std.specs.Prelude.{◌≡◌, ◌≢◌, ℕ, List, codes, Option, Some, None, Contains, option_map}
+use Rattle.std.specs.Prelude.{◌≡◌, ◌≢◌, ℕ, List, codes, Some, None, Contains, option_map}
 use Rattle.std.specs.List.{AllByRecursion}
 use Rattle.page_image.specs.Image.{Image}
 use Rattle.page_store.specs.declared.TheConstants.{ROOT_PAGE}

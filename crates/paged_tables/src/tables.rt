@@ -85,15 +85,18 @@ impl TableStore for PagedTables {
     ghost kept = { HoldsKept };
 
     fn schema(&self, alloc: Global, name: &Name) -> Result<Option<Schema>, WantOfMemory> {
-        Ok(find_entry(alloc, &self.store, name)?.map(|(schema, _)| schema))
+        match find_entry(alloc, &self.store, name)? {
+            Some((schema, _)) => Ok(Some(schema)),
+            None => Ok(None),
+        }
     }
 
     fn rows(&self, alloc: Global, table: &Schema, range: &KeyRange) -> Result<Rows, WantOfMemory> {
-        let Some((_, root)) = find_entry(alloc, &self.store, &table.table)? else {
+        let Some((schema, root)) = find_entry(alloc, &self.store, &table.table)? else {
             unreachable!()
         };
         let items = items_in(alloc, &self.store, root, range)?;
-        rows_of(alloc, table, items.as_slice())
+        rows_of(alloc, &schema, items.as_slice())
     }
 
     fn create(

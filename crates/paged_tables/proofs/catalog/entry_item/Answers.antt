@@ -1,10 +1,4 @@
-use Rattle.std.proofs.Common.{ℕ, List, sym, subst}
-use Rattle.sql_values.specs.declared.schemas.Schema.{Schema}
-use Rattle.sql_values.specs.declared.values.Value.{Value}
-use Rattle.row_codec.specs.Keys.{key_bytes}
-use Rattle.row_codec.specs.Records.{key_cell, record_length, value_bytes}
-use Rattle.sql_catalog.specs.Catalog.{catalog_row}
-use Rattle.paged_tables.proofs.CatalogLaws.{entry_short, not_refused}
+use Rattle.paged_tables.proofs.CatalogLaws.{not_refused}
 use Rattle.paged_tables.proofs.catalog.entry_item.Goals as goal
 
 pub unreachable-requires : goal.unreachable-requires

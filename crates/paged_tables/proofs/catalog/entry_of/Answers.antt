@@ -1,9 +1,7 @@
-use Rattle.std.proofs.Common.{◌≡◌, Option, Some, List, ap, ◌∙◌}
-use Rattle.sql_values.specs.declared.values.Value.{Value}
+use Rattle.std.proofs.Common.{◌≡◌, ap, ◌∙◌}
 use Rattle.sql_catalog.specs.Catalog.{catalog_row}
 use Rattle.page_view.specs.declared.leaf.LeafItem.{LeafItem}
 use Rattle.paged_tables.specs.Items.{Entry}
-use Rattle.paged_tables.specs.Content.{IsEntry}
 use Rattle.paged_tables.proofs.CatalogLaws.{entry_read, row_read, table_read}
 use Rattle.paged_tables.proofs.catalog.entry_of.Goals as goal
 

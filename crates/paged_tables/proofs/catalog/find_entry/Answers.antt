@@ -1,8 +1,8 @@
-use Rattle.std.proofs.Common.{◌≡◌, ℕ, List, Option, Some, None, map, sym, ap, ◌∙◌}
-use Rattle.std.specs.Prelude.{option_map, filter, slice_get}
+use Rattle.std.proofs.Common.{◌≡◌, ℕ, List, Option, Some, None, sym, ap, ◌∙◌}
+use Rattle.std.specs.Prelude.{option_map, slice_get}
 use Rattle.std.specs.Option.{option_copied}
 use Rattle.page_view.specs.declared.leaf.LeafItem.{LeafItem}
-use Rattle.page_view.specs.Leaf.{leaf_bytes, IsLeaf}
+use Rattle.page_view.specs.Leaf.{IsLeaf}
 use Rattle.page_store.specs.Stored.{pages_of}
 use Rattle.sql_values.specs.declared.schemas.Schema.{Schema}
 use Rattle.paged_tables.specs.Items.{Entry}

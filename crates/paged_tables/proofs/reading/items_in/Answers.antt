@@ -1,13 +1,11 @@
-use Rattle.std.proofs.Common.{◌≡◌, ℕ, List, map, sym, ap, subst, ◌∙◌}
+use Rattle.std.proofs.Common.{◌≡◌, ℕ, List, sym, ap, subst, ◌∙◌}
 use Rattle.std.specs.Prelude.{filter}
 use Rattle.std.specs.List.{AllByRecursion}
 use Rattle.rm_base.specs.declared.key_range.KeyRange.{KeyRange}
-use Rattle.page_view.specs.Leaf.{leaf_bytes}
 use Rattle.bplus_tree.specs.Found.{items_of}
 use Rattle.bplus_tree.specs.Walk as walk
 use Rattle.tree_change.specs.Pages.{HasRows}
 use Rattle.page_store.specs.Stored.{pages_of}
-use Rattle.tree_store.specs.Found.{HoldsRange}
 use Rattle.paged_tables.proofs.ReadLaws.{ok_gives}
 use Rattle.paged_tables.proofs.reading.items_in.Goals as goal
 

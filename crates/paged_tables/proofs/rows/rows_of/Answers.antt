@@ -1,5 +1,3 @@
-use Rattle.std.proofs.Common.{◌≡◌, Some}
-use Rattle.std.specs.Prelude.{slice_get}
 use Rattle.paged_tables.specs.Content.{IsStored}
 use Rattle.paged_tables.proofs.ReadLaws.{all_at}
 use Rattle.paged_tables.proofs.RowLaws.{read_at, row_at, rows_more}

@@ -1,4 +1,4 @@
-use Rattle.std.proofs.Common.{◌≡◌, ℕ, List, map, take}
+use Rattle.std.proofs.Common.{◌≡◌, List, map, take}
 use Rattle.std.specs.List.{AllByRecursion}
 use Rattle.sql_values.specs.declared.values.Value.{Value}
 use Rattle.page_view.specs.Leaf.{leaf_bytes}
