@@ -13,6 +13,6 @@ mod tables;
 mod tests;
 mod writing;
 
-pub use running::run_over;
+pub use running::{run, run_over};
 pub use status::Status;
 pub use tables::Working;

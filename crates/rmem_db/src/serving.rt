@@ -14,6 +14,7 @@ use crate::session::OneSession;
 use crate::status::Status;
 use crate::tables::Working;
 use crate::writing::write_piece;
+use paged_tables::PagedTables;
 use rm_env::{Sink, SinkNo, Source};
 use session_state::serving_laws;
 use std::alloc::Global;
@@ -155,4 +156,18 @@ pub(crate) fn serve_over<W: Working + Drop, S: Source, K: Sink>(
             return status;
         }
     }
+}
+
+/// The same over tables on pages, which are empty at first.
+pub(crate) fn serve<S: Source, K: Sink>(alloc: Global, source: &mut S, sink: &mut K) -> Status
+    ensures ends { Ends result
+        (S.left source.old) (S.left source.new) (K.taken sink.old) (K.taken sink.new) }
+    ensures cause { HasCause result
+        (S.faults source.old) (S.faults source.new) (K.faults sink.old) (K.faults sink.new) }
+{
+    serving_laws::<Sql>();
+    let Ok(tables) = PagedTables::new(alloc) else {
+        return Status::WantOfMemory;
+    };
+    serve_over(alloc, tables, source, sink)
 }

@@ -1,3 +1,4 @@
+use paged_tables::PagedTables;
 use sql_engine::TableStore;
 
 /// A store of tables whose changes are kept or given back. `kept` says which database stands without them.
@@ -13,4 +14,14 @@ pub trait Working: TableStore {
     fn give_back(&mut self)
         ensures kept { (k : Database) → Self.kept self.old k → Self.kept self.new k }
         ensures tables { (k : Database) → Self.kept self.old k → Self.tables self.new k };
+}
+
+impl Working for PagedTables {
+    fn keep(&mut self) {
+        PagedTables::keep(self);
+    }
+
+    fn give_back(&mut self) {
+        PagedTables::give_back(self);
+    }
 }

@@ -1,0 +1,96 @@
+#!/usr/bin/env python3
+"""Times `rmemdb serve` and `sqlite3 :memory:` on the same statements, of five kinds, at two sizes.
+
+    bench/compare.py [PROGRAM]
+
+PROGRAM is the built program, or crates/rmemdb/out/rmemdb. Each kind is measured over a table of as many rows as it
+has statements: the time of a run with the table and the statements, less that of a run with the table alone. Of
+several runs the fastest counts. Prints for each the statements a second of both, and the ratio of the times.
+"""
+import os
+import shutil
+import subprocess
+import sys
+import tempfile
+import time
+
+SIZES = (1_000, 20_000)
+ROUNDS = {1_000: 15, 20_000: 5}
+
+
+def numbers(count, below, seed):
+    """So many numbers below a bound, always the same."""
+    state = seed
+    for _ in range(count):
+        state = (state * 1_103_515_245 + 12_345) % 2**31
+        yield (state >> 8) % below
+
+
+def table(size):
+    """A table of so many rows, with keys in no order, and one to join it with."""
+    keys = list(range(size))
+    for i, j in enumerate(numbers(size, size, 7)):
+        keys[i], keys[j] = keys[j], keys[i]
+    return ["CREATE TABLE t (k INT PRIMARY KEY, v INT, w TEXT);", "CREATE TABLE u (k INT PRIMARY KEY, t INT);"], keys
+
+
+def insert(key):
+    return f"INSERT INTO t VALUES ({key}, {key * 3}, 'row {key}');"
+
+
+def kinds(size):
+    """Each kind of statement: its name, what comes before it, and the statements."""
+    create, keys = table(size)
+    rows = create + ["BEGIN;"] + [insert(k) for k in keys] + ["COMMIT;"]
+    some = list(numbers(size, size, 11))
+    both = rows + ["BEGIN;"] + [f"INSERT INTO u VALUES ({i}, {k});" for i, k in enumerate(some)] + ["COMMIT;"]
+    yield "insert", create, [insert(k) for k in keys]
+    yield "select by key", rows, [f"SELECT v, w FROM t WHERE k = {k};" for k in some]
+    yield "update by key", rows, [f"UPDATE t SET v = v + 1 WHERE k = {k};" for k in some]
+    yield "select 100 rows", rows, [f"SELECT v FROM t WHERE k >= {k} AND k < {k + 100};" for k in some]
+    yield "join on a key", both, [f"SELECT u.k, v FROM u JOIN t ON t.k = u.t WHERE u.k = {k};" for k in some]
+
+
+def fastest(words, script, rounds):
+    """The least time of some runs over the script, in seconds."""
+    best = None
+    for _ in range(rounds):
+        with open(script, "rb") as given:
+            start = time.perf_counter()
+            subprocess.run(words, stdin=given, stdout=subprocess.DEVNULL, check=True)
+            spent = time.perf_counter() - start
+        best = spent if best is None else min(best, spent)
+    return best
+
+
+def measured(words, before, statements, folder, rounds):
+    """The time of the statements alone."""
+    times = []
+    for name, lines in (("before", before), ("whole", before + statements)):
+        path = os.path.join(folder, name)
+        with open(path, "w") as out:
+            out.write("\n".join(lines) + "\n")
+        times.append(fastest(words, path, rounds))
+    return max(times[1] - times[0], 1e-9)
+
+
+def main():
+    top = os.path.dirname(os.path.dirname(os.path.abspath(__file__)))
+    program = sys.argv[1] if len(sys.argv) > 1 else os.path.join(top, "crates/rmemdb/out/rmemdb")
+    sqlite = shutil.which("sqlite3")
+    print(f"{'kind':<16} {'size':>6} {'rmemdb/s':>10} {'sqlite3/s':>10} {'ratio':>6} {'us each':>8}")
+    with tempfile.TemporaryDirectory() as folder:
+        for size in SIZES:
+            for name, before, statements in kinds(size):
+                ours = measured([program, "serve"], before, statements, folder, ROUNDS[size])
+                line = f"{name:<16} {size:>6} {size / ours:>10.0f}"
+                if sqlite:
+                    theirs = measured([sqlite, ":memory:"], before, statements, folder, ROUNDS[size])
+                    line += f" {size / theirs:>10.0f} {ours / theirs:>6.2f}"
+                else:
+                    line += f" {'-':>10} {'-':>6}"
+                print(f"{line} {ours / size * 1e6:>8.2f}", flush=True)
+
+
+if __name__ == "__main__":
+    main()

@@ -1,0 +1,13 @@
+CREATE TABLE account (id INT PRIMARY KEY, owner TEXT, cents INT);
+INSERT INTO account VALUES (1, 'ann', 10000), (2, 'bob', 2500), (3, 'cid', 0);
+BEGIN;
+UPDATE account SET cents = cents - 4000 WHERE id = 1;
+UPDATE account SET cents = cents + 4000 WHERE id = 3;
+SELECT id, cents FROM account;
+COMMIT;
+BEGIN;
+UPDATE account SET cents = cents - 9000 WHERE id = 2;
+SELECT owner, cents FROM account WHERE cents < 0;
+ROLLBACK;
+SELECT owner, cents FROM account ORDER BY cents DESC;
+SELECT SUM(cents) FROM account;

@@ -1,0 +1,12 @@
+CREATE TABLE city (name TEXT PRIMARY KEY, people INT);
+INSERT INTO city VALUES ('Oslo', 717710), ('Bergen', 291940);
+INSERT INTO city VALUES ('Oslo', 1);
+INSERT INTO city VALUES (NULL, 1);
+INSERT INTO city VALUES ('Moss', 'many');
+SELECT people FROM town;
+SELECT height FROM city;
+SELECT name FROM city WHERE people >;
+SELECT people * 9223372036854775807 FROM city;
+CREATE TABLE city (k INT PRIMARY KEY);
+COMMIT;
+SELECT * FROM city;
