@@ -1,5 +1,5 @@
 -- One line that is answered, or passed over.
-use Rattle.std.proofs.Common.{◌≡◌, ℕ, true, false, List, [], ◌∷◌, ◌++◌, Option, refl, sym, subst, append-nil}
+use Rattle.std.proofs.Common.{◌≡◌, ℕ, true, false, List, [], ◌∷◌, Option, refl, sym, subst, append-nil}
 use Rattle.std.proofs.KnownBytes.{Appends-nil}
 use Rattle.std.specs.Io.KnownBytes.{Appends}
 use Rattle.reply_text.specs.Texts.{reply_text}
@@ -10,7 +10,6 @@ use Rattle.rmem_db.specs.declared.session.OneSession.{OneSession}
 use Rattle.rmem_db.specs.Lines.{is_blank, filled}
 use Rattle.rmem_db.specs.Serving.{Answered, StoppedIn}
 use Rattle.rmem_db.specs.Session.{Reads, Stands, TakesTurn}
-use Rattle.rmem_db.specs.Texts.{replies_text}
 use Rattle.rmem_db.specs.Writing.{AppendsFront}
 use Rattle.rmem_db.proofs.TurnsLaws.{filled-blank, filled-one}
 

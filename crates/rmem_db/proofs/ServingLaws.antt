@@ -23,7 +23,7 @@ use Rattle.rmem_db.specs.Serving.{Answered, Serves, StoppedIn, IsServed, IsTooLo
 use Rattle.rmem_db.specs.Session.{Reads}
 use Rattle.rmem_db.specs.Texts.{ended, replies_text}
 use Rattle.rmem_db.specs.Writing.{AppendsFront}
-use Rattle.rmem_db.proofs.KnownText.{AppendsFront-append, AppendsFront-all, AppendsFront-behind}
+use Rattle.rmem_db.proofs.KnownText.{AppendsFront-all, AppendsFront-behind}
 use Rattle.rmem_db.proofs.LineLaws.{lines-none, lines-at, lines-ended, whole_lines-split, AllByRecursion-push}
 use Rattle.rmem_db.proofs.TurnsLaws.{filled-append, says}
 

@@ -1,5 +1,5 @@
 -- What each sort of statement makes of the session.
-use Rattle.std.proofs.Common.{◌≡◌, ◌≢◌, ◌⊎◌, ℕ, Bool, true, false, is_some, List, [], ◌∷◌, ◌++◌, fold, Option, Some, None, Result, Ok, Err, IfOk, refl, sym, ap, subst, ◌∙◌, inl, inr}
+use Rattle.std.proofs.Common.{◌≡◌, ◌≢◌, ◌⊎◌, Bool, true, false, List, [], ◌∷◌, ◌++◌, Option, Some, None, Result, Ok, Err, IfOk, refl, sym, ap, subst, ◌∙◌, inl, inr}
 use Rattle.sql_words.specs.declared.reserved.Word.TheVariants as word
 use Rattle.sql_words.specs.Reserved.{spelling}
 use Rattle.sql_statements.specs.declared.statements.Stmt.{Stmt}

@@ -1,23 +1,19 @@
 -- Statements that are read make proper tables.
-use Rattle.std.proofs.Common.{◌≡◌, ◌≢◌, ◌≤◌, ◌<◌, ◌+◌, ◌-◌, ℕ, suc, inl, inr, ◌&&◌, ◌||◌, Bool, true, false, cond, not, nat_lt, List, [], ◌∷◌, ◌++◌, map, length, None, refl, sym, ◌∙◌, ap, subst, arith, append-nil, append_assoc, length-append}
+use Rattle.std.proofs.Common.{◌≡◌, ◌≢◌, ◌≤◌, ◌<◌, ◌+◌, ◌-◌, ℕ, suc, inl, inr, ◌&&◌, ◌||◌, Bool, true, false, cond, not, nat_lt, List, [], ◌∷◌, ◌++◌, map, length, None, refl, sym, ◌∙◌, ap, subst, arith, length-append}
 use Rattle.std.proofs.lemmas.Bool.{ltb-true}
 use Rattle.std.proofs.lemmas.Slice.Eq.{bytes_eq-Decides}
 use Rattle.std.specs.List.{AllByRecursion, list_any, position_or_len}
 use Rattle.std.specs.Str.{bytes_eq}
-use Rattle.sql_values.specs.declared.values.Sort.{Sort}
 use Rattle.sql_values.specs.declared.schemas.Column.{Column}
-use Rattle.sql_values.specs.declared.schemas.Schema.{Schema}
 use Rattle.sql_catalog.specs.Catalog.{Differ, IsTable}
-use Rattle.sql_words.specs.declared.reserved.Word.{Word}
-use Rattle.sql_words.specs.declared.reserved.Word.TheVariants as w
 use Rattle.sql_words.specs.declared.signs.Sign.TheVariants as s
 use Rattle.sql_front.specs.declared.definitions.Definition.{Definition}
 use Rattle.sql_statements.specs.declared.statements.Stmt.{Stmt}
 use Rattle.sql_statements.specs.declared.statements.Stmt.TheVariants as stmt
 use Rattle.sql_front.specs.Conditions.{is_keyless, is_new_column, has_key, key_place, schema}
-use Rattle.sql_front.specs.Created.{IsProper, MakesTable, MakeTables}
+use Rattle.sql_front.specs.Created.{MakesTable, MakeTables}
 use Rattle.sql_front.specs.Grammar as g
-use Rattle.sql_front.specs.Rules.{Rule, nothing, the, the_if, a_name, Both, a_list, Further, none, another}
+use Rattle.sql_front.specs.Rules.{nothing, the, the_if, a_name, Both, a_list, Further, none, another}
 use Rattle.sql_front.specs.Symbols.{sign, word, Input, symbol_of}
 use Rattle.sql_front.proofs.ExprAgain.{sound_front, sound_back}
 use Rattle.sql_front.proofs.Given.{Given, front, back, its_name, allowed_name}

@@ -1,5 +1,5 @@
 -- The tables that statements make.
-use Rattle.std.specs.Prelude.{◌≡◌, ◌≢◌, ℕ, List}
+use Rattle.std.specs.Prelude.{◌≢◌, ℕ, List}
 use Rattle.sql_values.specs.declared.schemas.Schema.{Schema}
 use Rattle.sql_catalog.specs.Catalog.{IsTable}
 use Rattle.sql_words.specs.declared.reserved.Word.{Word}

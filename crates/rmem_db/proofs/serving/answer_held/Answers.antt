@@ -1,7 +1,5 @@
-use Rattle.std.proofs.Common.{◌≡◌, ◌+◌, ◌∷◌, [], List, ℕ, ap, ◌∙◌, arith, take, drop}
-use Rattle.rmem_db.specs.Lines.{filled}
+use Rattle.std.proofs.Common.{◌≡◌, ◌+◌, List, ℕ, ap, ◌∙◌, arith, take, drop}
 use Rattle.rmem_db.specs.Reading.{Held}
-use Rattle.rmem_db.specs.Serving.{Answered}
 use Rattle.rmem_db.specs.Session.{Stands}
 use Rattle.rmem_db.proofs.KnownText.{OnErr-any}
 use Rattle.rmem_db.proofs.ServingLaws.{Serves-line, IsCutOff-line}

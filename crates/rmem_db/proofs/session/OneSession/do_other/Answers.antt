@@ -1,4 +1,4 @@
-use Rattle.std.proofs.Common.{◌≡◌, sym, ◌∙◌}
+use Rattle.std.proofs.Common.{sym, ◌∙◌}
 use Rattle.sql_exec.specs.declared.replies.SqlReply.TheVariants as reply
 use Rattle.session_state.specs.Serving.{seen}
 use Rattle.rmem_db.proofs.SessionLaws.{apart, full, joins, keeps_now}
