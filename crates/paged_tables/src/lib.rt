@@ -7,5 +7,7 @@ mod items;
 mod reading;
 mod rows;
 mod tables;
+#[cfg(test)]
+mod tests;
 
 pub use tables::PagedTables;
