@@ -1,5 +1,5 @@
 -- What the groups of plans do to the trees of a store.
-use Rattle.std.proofs.Common.{◌≡◌, ◌<◌, ◌≤◌, ◌+◌, ℕ, List, [], ◌∷◌, ◌++◌, length, Option, Some, None, IsNone, Result, Ok, Err, true, false, refl, sym, ap, subst, ◌∙◌, arith}
+use Rattle.std.proofs.Common.{◌≡◌, ◌<◌, ℕ, List, [], ◌∷◌, ◌++◌, Option, Some, None, IsNone, Result, Ok, Err, true, false, refl, sym, ap, subst, ◌∙◌, arith}
 use Rattle.std.specs.Prelude.{Contains, IfSome, IfOk, IsOk, OnOk, OnErr, ◌↔◌}
 use Rattle.page_image.specs.Image.{Image}
 use Rattle.redo_record.specs.declared.redo.Record.{Record}
@@ -8,7 +8,7 @@ use Rattle.redo_record.specs.Effect.{RecordsApply}
 use Rattle.page_store.specs.Stored.{Stored, pages_of, with_group, next_lsn}
 use Rattle.page_store.proofs.StoredLaws.{after_group}
 use Rattle.tree_change.specs.Splits.{count_of}
-use Rattle.tree_change.specs.Effects.{pages_after, without_item, Carries, Keeps, Begins}
+use Rattle.tree_change.specs.Effects.{pages_after, Carries, Keeps, Begins}
 use Rattle.tree_store.specs.Forest.{Forest, with_tree, IsWayIn}
 use Rattle.tree_store.proofs.ForestLaws.{way_to, is_fresh, carried, kept, begun, count_after, with_itself}
 

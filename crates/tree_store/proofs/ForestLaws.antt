@@ -1,17 +1,16 @@
 -- Trees on one set of pages after a plan has changed one of them.
-use Rattle.std.proofs.Common.{◌≡◌, ◌≢◌, ◌<◌, ◌≤◌, ◌+◌, ℕ, Bool, true, false, cond, eqb, leb, List, [], ◌∷◌, ◌++◌, length, Option, None, refl, sym, ap, subst, ◌∙◌, arith, inl, inr}
-use Rattle.std.specs.Prelude.{◌⊎◌, ◌↔◌, Contains}
+use Rattle.std.proofs.Common.{◌≡◌, ◌≢◌, ◌<◌, ◌≤◌, ◌+◌, ℕ, true, false, cond, eqb, leb, List, [], ◌∷◌, ◌++◌, length, None, refl, sym, ap, subst, ◌∙◌, arith, inl, inr}
+use Rattle.std.specs.Prelude.{◌⊎◌, Contains}
 use Rattle.std.specs.List.{AllByRecursion}
 use Rattle.std.proofs.lemmas.Bool.{cases_lt, eq-eqb, ne_eqb}
 use Rattle.std.proofs.lemmas.Bool.Decides.{eqb_tells, nat_tests}
-use Rattle.page_image.specs.declared.kind.Kind.TheVariants.{Unmade, Meta}
 use Rattle.page_image.specs.Image.{Image, unmade}
 use Rattle.redo_record.specs.declared.plans.Plan.{Plan}
 use Rattle.redo_record.proofs.Fold.{after_records-page}
 use Rattle.bplus_tree.specs.Tree.{Tree}
 use Rattle.tree_change.specs.Way.{IsWayTo}
-use Rattle.tree_change.specs.Splits.{IsMeta, count_of}
-use Rattle.tree_change.specs.Effects.{pages_after, TouchesOnly, StandsOn, GrowsOn, Counts, IsFresh, Carries, Keeps, Begins}
+use Rattle.tree_change.specs.Splits.{count_of}
+use Rattle.tree_change.specs.Effects.{pages_after, TouchesOnly, StandsOn, Counts, IsFresh, Carries, Keeps, Begins}
 use Rattle.tree_change.proofs.NodeLaws.{IsNode, stands_nodes}
 use Rattle.tree_change.proofs.MemberLaws.{here, by_members, member_has}
 use Rattle.tree_change.proofs.SiteLaws.{own_first}

@@ -1,7 +1,5 @@
 -- The trees of a new store: one, which is empty.
-use Rattle.std.proofs.Common.{◌≡◌, ◌≤◌, ℕ, List, [], ◌∷◌, refl, sym, subst, arith}
-use Rattle.std.specs.Prelude.{Contains}
-use Rattle.page_image.specs.Image.{Image}
+use Rattle.std.proofs.Common.{◌≡◌, ℕ, [], ◌∷◌, refl, sym, subst, arith}
 use Rattle.page_store.specs.declared.TheConstants.{ROOT_PAGE, FIRST_FREE}
 use Rattle.page_store.specs.Stored.{pages_of}
 use Rattle.page_store.specs.Opening.{opened}

@@ -1,13 +1,11 @@
 -- A walk along the leaves of a range, on its way.
-use Rattle.std.proofs.Common.{◌≡◌, ◌≢◌, ℕ, Bool, true, false, cond, List, [], ◌∷◌, ◌++◌, map, Option, Some, None, refl, sym, ap, subst, ◌∙◌}
-use Rattle.std.specs.Prelude.{filter, Contains}
+use Rattle.std.proofs.Common.{◌≡◌, ℕ, Bool, true, false, cond, List, [], ◌∷◌, ◌++◌, map, Option, Some, None, refl, sym, ap, subst, ◌∙◌}
 use Rattle.std.specs.List.{AllByRecursion}
 use Rattle.std.proofs.lemmas.List.{append_assoc, append-nil}
 use Rattle.page_image.specs.declared.kind.Kind.{Kind}
 use Rattle.page_image.specs.declared.kind.Kind.TheVariants as kind
 use Rattle.page_image.specs.Image.{Image}
-use Rattle.bplus_tree.specs.declared.want.Want.{Want}
-use Rattle.bplus_tree.specs.declared.want.Want.TheVariants.{Need, Leaf, Finished}
+use Rattle.bplus_tree.specs.declared.want.Want.TheVariants.{Need, Leaf}
 use Rattle.bplus_tree.specs.Tree.{Tree, is_leaf, leaves_of}
 use Rattle.bplus_tree.specs.Walk.{Walking, start, wanted, Told, Answers, Runs}
 use Rattle.bplus_tree.specs.Found.{FindsRange}

@@ -1,10 +1,6 @@
-use Rattle.std.proofs.Common.{◌≡◌, ◌<◌, ◌-◌, ℕ, Option, None, Result, Ok, IsNone, refl, subst, arith}
-use Rattle.std.specs.Prelude.{IfOk}
-use Rattle.redo_record.specs.declared.plans.TreeNo.{TreeNo}
-use Rattle.page_image.specs.declared.page.Page.{Page}
+use Rattle.std.proofs.Common.{◌<◌, ◌-◌, arith}
 use Rattle.page_store.specs.Stored.{pages_of}
 use Rattle.tree_change.specs.Splits.{count_of}
-use Rattle.tree_store.specs.Forest.{Forest}
 use Rattle.tree_store.proofs.ChangeLaws.{grew}
 use Rattle.tree_store.proofs.changing.make_room.Goals as goal
 

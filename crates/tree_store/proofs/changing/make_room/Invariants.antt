@@ -1,8 +1,6 @@
-use Rattle.std.proofs.Common.{◌≡◌, ◌-◌, ℕ, List}
-use Rattle.std.specs.Prelude.{Contains}
+use Rattle.std.proofs.Common.{◌-◌}
 use Rattle.page_store.specs.Stored.{pages_of}
 use Rattle.tree_change.specs.Splits.{count_of}
-use Rattle.tree_store.specs.Forest.{Forest}
 use Rattle.tree_store.proofs.ChangeLaws.{Stays}
 use Rattle.tree_store.proofs.changing.make_room.Given as goal
 

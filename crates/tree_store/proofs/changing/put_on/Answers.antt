@@ -1,10 +1,7 @@
-use Rattle.std.proofs.Common.{ℕ, List}
-use Rattle.std.specs.Prelude.{Contains}
 use Rattle.page_view.specs.Leaf.{leaf_bytes}
 use Rattle.page_store.specs.Stored.{pages_of}
 use Rattle.tree_change.specs.Effects.{with_item}
 use Rattle.tree_change.proofs.AnswerLaws.{on_ok}
-use Rattle.tree_store.specs.Forest.{Forest}
 use Rattle.tree_store.proofs.ForestLaws.{way_to}
 use Rattle.tree_store.proofs.ChangeLaws.{carried_applies, ran_carried}
 use Rattle.tree_store.proofs.changing.put_on.Goals as goal

@@ -1,11 +1,9 @@
-use Rattle.std.proofs.Common.{ℕ, List, subst}
-use Rattle.std.specs.Prelude.{Contains}
+use Rattle.std.proofs.Common.{subst}
 use Rattle.page_image.specs.Image.{Image}
 use Rattle.page_view.specs.Leaf.{leaf_bytes}
 use Rattle.page_store.specs.Stored.{pages_of}
 use Rattle.tree_change.specs.Effects.{with_item, Begins}
 use Rattle.tree_change.proofs.AnswerLaws.{on_ok}
-use Rattle.tree_store.specs.Forest.{Forest}
 use Rattle.tree_store.proofs.ForestLaws.{way_to}
 use Rattle.tree_store.proofs.ChangeLaws.{begun_applies, ran_begun}
 use Rattle.tree_store.proofs.changing.put_with_tree.Goals as goal

@@ -1,5 +1,4 @@
-use Rattle.std.proofs.Common.{◌≡◌, ◌<◌, ℕ, List, Option, Result, IsNone, refl, subst}
-use Rattle.std.specs.Prelude.{Contains}
+use Rattle.std.proofs.Common.{ℕ, List, Option, Result, IsNone, refl, subst}
 use Rattle.page_image.specs.Image.{Image}
 use Rattle.redo_record.specs.declared.plans.Plan.{Plan}
 use Rattle.redo_record.specs.declared.plans.TreeNo.{TreeNo}
@@ -8,7 +7,7 @@ use Rattle.tree_change.specs.Places.{page_on}
 use Rattle.tree_change.specs.Room.{lacks_room}
 use Rattle.tree_change.specs.Splits.{HaveRoom, SpaceFor, count_of}
 use Rattle.tree_change.specs.Effects.{Keeps}
-use Rattle.tree_store.specs.Forest.{Forest, IsWayIn, HasRoom}
+use Rattle.tree_store.specs.Forest.{IsWayIn}
 use Rattle.tree_store.proofs.ForestLaws.{way_to}
 use Rattle.tree_store.proofs.WayLaws.{room_on, full_from}
 use Rattle.tree_store.proofs.ChangeLaws.{kept_applies, ran_kept, ran_more, planned, refused}

@@ -1,11 +1,10 @@
-use Rattle.std.proofs.Common.{◌≡◌, ℕ, List, Option, Some, None, IsNone, refl, subst}
-use Rattle.std.specs.Prelude.{Contains, IfSome}
+use Rattle.std.proofs.Common.{◌≡◌, Option, IsNone, refl, subst}
+use Rattle.std.specs.Prelude.{IfSome}
 use Rattle.redo_record.specs.declared.plans.Plan.{Plan}
 use Rattle.page_store.specs.Stored.{pages_of}
 use Rattle.tree_change.specs.Way.{IsWayTo}
 use Rattle.tree_change.specs.Effects.{without_item, Carries}
 use Rattle.tree_change.proofs.AnswerLaws.{on_ok}
-use Rattle.tree_store.specs.Forest.{Forest}
 use Rattle.tree_store.proofs.ForestLaws.{way_to}
 use Rattle.tree_store.proofs.ChangeLaws.{carried_applies, ran_carried, without_none}
 use Rattle.tree_store.proofs.changing.take_from.Goals as goal

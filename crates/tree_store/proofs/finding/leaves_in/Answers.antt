@@ -1,6 +1,5 @@
-use Rattle.std.proofs.Common.{◌≡◌, ◌≤◌, ℕ, List, [], Some, None, sym, ap, subst, ◌∙◌, arith}
+use Rattle.std.proofs.Common.{◌≡◌, ◌≤◌, ℕ, List, [], Some, None, sym, ap, subst, ◌∙◌}
 use Rattle.page_image.specs.Image.{Image}
-use Rattle.bplus_tree.specs.Tree.{Tree}
 use Rattle.bplus_tree.specs.Walk.{Walking, wanted, Told, IsToRead}
 use Rattle.page_store.specs.Stored.{pages_of}
 use Rattle.tree_store.specs.Found.{noted, HoldsRange}

@@ -1,7 +1,6 @@
 use Rattle.std.proofs.Common.{◌≡◌, ℕ, List, [], ◌∷◌, ◌++◌, Some, sym, ap, subst, ◌∙◌}
 use Rattle.page_image.specs.Image.{Image}
-use Rattle.bplus_tree.specs.declared.want.Want.TheVariants.{Need}
-use Rattle.bplus_tree.specs.Walk.{Walking, start, Told, Answers, IsToRead}
+use Rattle.bplus_tree.specs.Walk.{start, Told, IsToRead}
 use Rattle.page_store.specs.Stored.{pages_of}
 use Rattle.tree_store.proofs.WayLaws.{OnWay, way_starts, way_needs, way_steps, way_ends}
 use Rattle.tree_store.proofs.PageLaws.{page_there, page_is}

@@ -1,11 +1,11 @@
-use Rattle.std.proofs.Common.{◌≡◌, ℕ, List, [], ◌∷◌, ◌++◌, sym, subst}
+use Rattle.std.proofs.Common.{◌≡◌, [], ◌∷◌, ◌++◌, sym, subst}
 use Rattle.std.specs.Prelude.{Contains}
 use Rattle.page_view.specs.Leaf.{leaf_bytes}
 use Rattle.page_store.specs.Stored.{pages_of}
 use Rattle.tree_change.specs.Splits.{count_of}
 use Rattle.tree_change.specs.Effects.{with_item}
 use Rattle.tree_change.proofs.MemberLaws.{among}
-use Rattle.tree_store.specs.Forest.{Forest, IsRoot, with_tree}
+use Rattle.tree_store.specs.Forest.{Forest, with_tree}
 use Rattle.tree_store.proofs.tests.begin.Goals as goal
 
 pub returns : goal.returns
