@@ -16,6 +16,7 @@ pub fn schemas_named<T: TableStore>(
     store: &T,
     statement: &Stmt,
 ) -> Result<Schemas, WantOfMemory>
+    requires { (d : Database) × T.tables store.now d }
     ensures { (d : Database) → T.tables store.now d
         → IfOk result (λ s. s ≡ spec.schemas_named d.schemas (mentioned statement.now)) }
 {
@@ -43,6 +44,7 @@ fn append_named<T: TableStore>(
     name: &Name,
     schemas: &mut Schemas,
 ) -> Result<(), WantOfMemory>
+    requires { (d : Database) × T.tables store.now d }
     ensures { (d : Database) → T.tables store.now d
         → OnOk result (schemas.new ≡ schemas.old ++ option_to_list (table_named d.schemas name.now)) }
 {

@@ -29,6 +29,7 @@ pub trait TableStore {
 
     /// The schema of the table with that name, where there is one.
     fn schema(&self, alloc: Global, name: &Name) -> Result<Option<Schema>, WantOfMemory>
+        requires { (d : Database) × tables self.now d }
         ensures { (d : Database) → tables self.now d → IfOk result (λ s. s ≡ table_named d.schemas name.now) };
 
     /// The rows of a table whose keys lie in the range, in the order of their keys.
