@@ -5,3 +5,4 @@ pub mod ReadLaws
 pub mod CatalogLaws
 pub mod RowLaws
 pub mod TableLaws
+pub mod PlaceLaws

@@ -1,5 +1,6 @@
-ghost use Rattle.std.specs.Prelude.{◌≡◌, ◌<◌, ◌++◌, ◌∷◌, [], ℕ, List, Some, length, map, filter, slice_get, Contains, IsSome, IfSome, IfOk, OnOk};
+ghost use Rattle.std.specs.Prelude.{◌≡◌, ◌≤◌, ◌<◌, ◌++◌, ◌∷◌, [], ℕ, List, Some, length, map, filter, slice_get, Contains, IsSome, IfSome, IfOk, OnOk};
 ghost use Rattle.std.specs.List.{AllByRecursion};
+ghost use Rattle.page_view.specs.Keys.{keys_of, IsFound};
 ghost use Rattle.page_view.specs.Leaf.{IsLeaf, HoldsLeaf, leaf_bytes};
 ghost use Rattle.bplus_tree.specs.Found.{items_of};
 ghost use Rattle.bplus_tree.specs.Walk as walk;
@@ -8,11 +9,12 @@ ghost use Rattle.page_store.specs.Stored.{pages_of};
 ghost use Rattle.tree_store.specs.Forest.{Forest, IsRoot};
 ghost use Rattle.sql_meaning.specs.Ranges.{is_past, is_before};
 ghost use Rattle.sql_meaning.specs.Ranges as ranges;
+ghost use Rattle.paged_tables.specs.Places.{IsFirst, IsEnd};
 
 use crate::items::LeafItems;
 use page_image::Page;
 use page_store::PageStore;
-use page_view::LeafRef;
+use page_view::{LeafRef, LeafView};
 use rm_base::{Bytes, Duplicate, KeyRange, PageId, WantOfMemory};
 use std::alloc::Global;
 use std::cmp::Ordering;
@@ -100,7 +102,48 @@ fn push_in_range(
     Ok(())
 }
 
-/// Adds the items of a leaf whose keys lie in the range.
+/// Where a key stands on a leaf.
+fn find(page: &Page, key: &[u8]) -> Result<usize, usize>
+    requires { HasRows page.now }
+    ensures { IsFound (keys_of page.now.items) key.now result }
+{
+    LeafView::over(page).unwrap().find(key)
+}
+
+/// How many keys of a leaf are below a range's low end.
+#[tactic(auto, using(crate::proofs::PlaceLaws::first_found, crate::proofs::PlaceLaws::first_within))]
+fn first_place(page: &Page, low: &Option<Bytes>) -> usize
+    requires { HasRows page.now }
+    ensures within { result ≤ length page.now.items }
+    ensures first { IsFirst low.now (keys_of page.now.items) result }
+{
+    match low {
+        None => 0,
+        Some(low) => match find(page, low.as_slice()) {
+            Ok(place) | Err(place) => place,
+        },
+    }
+}
+
+/// The place behind the last key of a leaf that is not past a range's high end.
+#[tactic(auto, using(crate::proofs::PlaceLaws::end_found, crate::proofs::PlaceLaws::first_within))]
+fn end_place(page: &Page, high: &Option<Bytes>) -> usize
+    requires { HasRows page.now }
+    ensures within { result ≤ length page.now.items }
+    ensures end { IsEnd high.now (keys_of page.now.items) result }
+{
+    let count = usize::from(page.slots());
+    match high {
+        None => count,
+        Some(high) => match find(page, high.as_slice()) {
+            Ok(place) => place + 1,
+            Err(place) => place,
+        },
+    }
+}
+
+/// Adds the items of a leaf whose keys lie in the range. Only these and two searches by halves are looked at.
+#[tactic(auto, using(crate::proofs::PlaceLaws::none_before, crate::proofs::PlaceLaws::all_before, crate::proofs::PlaceLaws::later_end))]
 fn push_items(
     alloc: Global,
     found: &mut LeafItems,
@@ -112,7 +155,9 @@ fn push_items(
         ≡ map leaf_bytes found.old ++ filter (walk.in_range range.now.low range.now.high) page.now.items) }
     ensures are_leaves { AllByRecursion IsLeaf found.old → OnOk result (AllByRecursion IsLeaf found.new) }
 {
-    for i in 0..usize::from(page.slots()) {
+    let first = first_place(page, &range.low);
+    let end = end_place(page, &range.high).max(first);
+    for i in first..end {
         push_in_range(alloc, found, &leaf_at(page, i), range)?;
     }
     Ok(())

@@ -1,7 +1,15 @@
-use Rattle.std.proofs.Common.{map}
+use Rattle.std.proofs.Common.{◌++◌, ℕ, List, map, sym, ap, ◌∙◌}
+use Rattle.std.proofs.lemmas.List.{append-nil}
 use Rattle.page_view.specs.Leaf.{leaf_bytes}
+use Rattle.paged_tables.proofs.PlaceLaws.{none_before}
 use Rattle.paged_tables.proofs.ReadLaws.{one_read}
 use Rattle.paged_tables.proofs.reading.push_items.Goals as goal
+
+pub loop-i-init : goal.loop-i-init
+loop-i-init c =
+    let before : List (List ℕ) = map leaf_bytes c.args.found.now in
+    let none = none_before c.args.range.now.low c.args.range.now.high c.args.page.now.items c.first_place-first.result c.first_place-first.ensures.first in
+    record { spelled = sym (ap (λ (xs : List (List ℕ)). before ++ xs) none ∙ append-nil before); are_leaves = λ old. old }
 
 pub loop-i-preserved : goal.loop-i-preserved
 loop-i-preserved c = record {
