@@ -5,6 +5,7 @@ ghost use Rattle.page_image.specs.Image.{zeros};
 ghost use Rattle.page_image.specs.Layout.{end_of, slot_bytes};
 ghost use Rattle.page_image.specs.Moves.{HasSlots};
 
+use crate::moving::move_bytes;
 use crate::{HEADER_BYTES, PAGE_BYTES};
 use rm_base::{get_u16, put_u16};
 
@@ -26,12 +27,13 @@ pub(crate) fn item_end(bytes: &[u8], i: usize) -> usize
 pub(crate) fn put_item(bytes: &mut [u8], from: usize, to: usize, item: &[u8])
     requires room { from + length item.now ≤ to }
     requires within { to ≤ length bytes.old }
+    requires page { length bytes.old ≤ PAGE_BYTES }
     ensures { (p z b s : List ℕ) → length p ≡ from → length z ≡ length item.now
         → from + length z + length b ≡ to → bytes.old ≡ p ++ (z ++ (b ++ s))
         → bytes.new ≡ p ++ (b ++ (item.now ++ s)) }
 {
     let size = item.len();
-    bytes.copy_within(from + size..to, from);
+    move_bytes(bytes, from + size, to, from);
     bytes[to - size..to].copy_from_slice(item);
 }
 
@@ -77,11 +79,12 @@ fn make_zero(bytes: &mut [u8])
 pub(crate) fn take_item(bytes: &mut [u8], from: usize, to: usize, size: usize)
     requires room { from + size ≤ to }
     requires within { to ≤ length bytes.old }
+    requires page { length bytes.old ≤ PAGE_BYTES }
     ensures { (p b x s : List ℕ) → length p ≡ from → length x ≡ size
         → from + length b + length x ≡ to → bytes.old ≡ p ++ (b ++ (x ++ s))
         → bytes.new ≡ p ++ (zeros size ++ (b ++ s)) }
 {
-    bytes.copy_within(from..to - size, from + size);
+    move_bytes(bytes, from, to - size, from + size);
     make_zero(&mut bytes[from..from + size]);
 }
 

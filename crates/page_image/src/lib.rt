@@ -8,6 +8,7 @@ mod header;
 mod kind;
 mod laws;
 mod layout;
+mod moving;
 mod page;
 
 pub use errors::BadPage;
