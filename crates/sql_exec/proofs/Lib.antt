@@ -4,3 +4,4 @@ pub mod ActLaws
 pub mod WholeLaws
 pub mod InsertLaws
 pub mod RangeLaws
+pub mod SeenLaws

@@ -4,4 +4,5 @@ pub mod Changes
 pub mod Database
 pub mod Kept
 pub mod Order
+pub mod Seen
 pub mod Totals

@@ -4,6 +4,7 @@
 mod changes;
 mod evaluating;
 mod keeping;
+mod keys;
 mod laws;
 mod ordering;
 mod replies;

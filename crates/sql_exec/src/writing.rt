@@ -2,18 +2,19 @@ ghost use Rattle.std.specs.Prelude.{◌≡◌, IfOk, length, slice_set};
 ghost use Rattle.std.specs.List.{list_any};
 ghost use Rattle.row_codec.specs.Records.{key_cell};
 ghost use Rattle.sql_exec.specs.Answer.{deletes, inserted, inserts, outcome_of, placed_rows, updates, wants};
-ghost use Rattle.sql_exec.specs.Changes.{first_repeat, is_same, keys_of, placing, removal};
+ghost use Rattle.sql_exec.specs.Changes.{first_repeat, keys_of, placing, removal};
 ghost use Rattle.sql_exec.specs.Kept.{each, set_all};
 ghost use Rattle.sql_exec.specs.Totals as totals;
 
 use crate::changes::{Changes, place_row, remove_row};
 use crate::keeping::{all_values, kept};
+use crate::keys::repeat;
 use crate::replies::{Outcome, SqlReply};
 use crate::totals::is_null;
 use rm_base::{Duplicate, WantOfMemory};
 use row_codec::TooLarge;
 use sql_meaning::{Resolved, ResolvedRows, SetPlaces};
-use sql_values::{Overflow, Row, Rows, Schema, Value, order};
+use sql_values::{Overflow, Row, Rows, Schema, Value};
 use std::alloc::Global;
 
 /// The outcome of an INSERT over the rows that have a tuple's key.
@@ -98,28 +99,6 @@ fn cell(alloc: Global, row: &Row, place: usize) -> Result<Value, WantOfMemory>
         Some(value) => value.copy(alloc),
         None => Ok(Value::Null),
     }
-}
-
-/// The first key that was seen or is one of those before it.
-fn repeat(alloc: Global, seen: Row, keys: &Row) -> Result<Option<Value>, WantOfMemory>
-    ensures { IfOk result (λ r. r ≡ first_repeat seen keys.now) }
-{
-    let mut seen = seen;
-    for key in keys.as_slice() {
-        if is_among(key, &seen) {
-            return Ok(Some(key.copy(alloc)?));
-        }
-        seen.push(key.copy(alloc)?)?;
-    }
-    Ok(None)
-}
-
-fn is_among(key: &Value, seen: &Row) -> bool
-    ensures { result ≡ list_any (is_same key.now) seen.now }
-{
-    seen.as_slice()
-        .iter()
-        .any(|other| order(key, other).is_eq())
 }
 
 /// The outcome of an UPDATE over its table's rows. SET reads the old row.
