@@ -5,3 +5,4 @@ pub mod WholeLaws
 pub mod InsertLaws
 pub mod RangeLaws
 pub mod SeenLaws
+pub mod TotalLaws

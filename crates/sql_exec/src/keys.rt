@@ -14,7 +14,7 @@ use std::collections::BTreeSet;
 
 /// A value in a set of keys, which the order of values sorts.
 #[derive(Drop)]
-pub struct Key(Value);
+struct Key(Value);
 
 impl PartialEq for Key {
     ghost eq = { eq_by_cmp key_cmp };

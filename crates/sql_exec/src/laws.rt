@@ -1,4 +1,5 @@
 ghost use Rattle.sql_exec.specs.Database.{FilteredIsWithout, IsWhole, JoinedIsWithout, OutsideIsNeedless};
+ghost use Rattle.sql_exec.specs.Extremes.{MaxIsGreatest, MinIsLeast};
 
 /// An outcome over rows that lack only what the statement does not need is the answer over whole tables, and
 /// an INSERT does not need the rows outside its ranges. Rows that were filtered, and pairs of such, lack only
@@ -9,4 +10,12 @@ pub fn whole_laws()
     ensures inserts { OutsideIsNeedless }
     ensures filtered { FilteredIsWithout }
     ensures joined { JoinedIsWithout }
+{}
+
+/// MIN is NULL where all cells are NULL, and else the least of the cells that are not NULL: one of the cells,
+/// with none that is not NULL below it. MAX is the same with the greatest. It does nothing when it is run.
+#[tactic(auto, using(crate::proofs::TotalLaws::min_is_least, crate::proofs::TotalLaws::max_is_greatest))]
+pub fn total_laws()
+    ensures min { MinIsLeast }
+    ensures max { MaxIsGreatest }
 {}

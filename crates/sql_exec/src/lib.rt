@@ -15,6 +15,6 @@ mod writing;
 
 pub use changes::{Change, Changes};
 pub use evaluating::eval;
-pub use laws::whole_laws;
+pub use laws::{total_laws, whole_laws};
 pub use replies::{Outcome, SqlReply};
 pub use rows::{RangeRows, RowLists};
