@@ -2,6 +2,16 @@
 #![tactic(auto)]
 
 #[cfg(test)]
+mod answers;
+#[cfg(test)]
+mod parts;
+#[cfg(test)]
 mod plain;
 #[cfg(test)]
-mod tests;
+mod planned;
+#[cfg(test)]
+mod running;
+#[cfg(test)]
+mod table;
+#[cfg(test)]
+mod writes;

@@ -1,54 +1,21 @@
-//! Tables as plain lists of rows, and statements over all rows of them.
-use reply_text::reply_text;
-use rm_base::{Bytes, Duplicate, Items, Text};
-use row_codec::key_of;
-use sql_exec::{Change, Outcome, RangeRows, RowLists, SqlReply, eval};
-use sql_front::parse;
-use sql_statements::{Select, Stmt};
-use sql_values::{Row, Rows, Schema, Schemas, Value};
-use std::alloc::Global;
-use std::cmp::Ordering;
-use std::test::Fail;
+//! A database of plain lists, and statements over all rows of its tables.
+ghost use Rattle.sql_exec.specs.Answer.{IsEvaluated};
 
-/// Tables, each with its rows by their key.
+use crate::parts::{is_evaluated, left, made, right};
+use crate::table::Table;
+use reply_text::reply_text;
+use rm_base::{Duplicate, Name, Text, WantOfMemory};
+use sql_exec::{Change, Changes, Outcome, RangeRows, RowLists, SqlReply, eval};
+use sql_front::parse;
+use sql_statements::Stmt;
+use sql_values::{Rows, Schema, Schemas};
+use std::alloc::Global;
+
+/// Schemas, and a table of each.
 #[derive(Drop)]
 pub(crate) struct Plain {
-    pub(crate) schemas: Schemas,
-    tables: Vec<Rows>,
-}
-
-/// The key of a row as bytes. A row without one has none.
-fn key(alloc: Global, row: &Row, place: u8) -> Result<Bytes, Fail> {
-    match row.get(usize::from(place)) {
-        None | Some(Value::Null) => Ok(Bytes::new(alloc)),
-        Some(value) => match key_of(alloc, value)? {
-            Ok(key) => Ok(key),
-            Err(_) => Ok(Bytes::new(alloc)),
-        },
-    }
-}
-
-/// The rows with lesser keys, then the row, then those with greater keys.
-fn placed(alloc: Global, rows: &Rows, place: u8, change: &Change) -> Result<Rows, Fail> {
-    let mut placed = Rows::new(alloc);
-    let mut after = Rows::new(alloc);
-    for row in rows.as_slice() {
-        match key(alloc, row, place)?
-            .as_slice()
-            .cmp(change.key.as_slice())
-        {
-            Ordering::Less => placed.push(row.copy(alloc)?)?,
-            Ordering::Equal => {}
-            Ordering::Greater => after.push(row.copy(alloc)?)?,
-        }
-    }
-    if let Some(row) = &change.row {
-        placed.push(row.copy(alloc)?)?;
-    }
-    for row in after.as_slice() {
-        placed.push(row.copy(alloc)?)?;
-    }
-    Ok(placed)
+    schemas: Schemas,
+    tables: Vec<Table>,
 }
 
 impl Plain {
@@ -59,89 +26,122 @@ impl Plain {
         }
     }
 
-    /// The rows of the table with the name; none where no table has it.
-    fn rows(&self, alloc: Global, name: &[u8]) -> Result<Rows, Fail> {
-        for (schema, rows) in self.schemas.as_slice().iter().zip(self.tables.iter()) {
-            if schema.table.as_slice() == name {
-                return Ok(rows.copy(alloc)?);
+    pub(crate) fn schemas(&self) -> &Schemas {
+        &self.schemas
+    }
+
+    /// The rows of the table with the name, or none.
+    fn rows(&self, alloc: Global, name: Option<&Name>) -> Result<Rows, WantOfMemory> {
+        match name {
+            Some(name) => self.rows_named(alloc, name),
+            None => Ok(Rows::new(alloc)),
+        }
+    }
+
+    fn rows_named(&self, alloc: Global, name: &Name) -> Result<Rows, WantOfMemory> {
+        for table in &self.tables {
+            if table.is_named(name) {
+                return table.rows(alloc);
             }
         }
         Ok(Rows::new(alloc))
     }
 
-    /// All rows that a select could read.
-    fn of_select(&self, alloc: Global, select: &Select) -> Result<RangeRows, Fail> {
-        let left = self.rows(alloc, select.left.as_slice())?;
-        let mut right = RowLists::new(alloc);
-        if let Some(join) = &select.join {
-            for _ in left.as_slice() {
-                right.push(self.rows(alloc, join.right.as_slice())?)?;
-            }
-        }
-        Ok(RangeRows { left, right })
-    }
-
     /// All rows that a statement could read.
-    fn whole(&self, alloc: Global, statement: &Stmt) -> Result<RangeRows, Fail> {
-        let left = match statement {
-            Stmt::Select(select) => return self.of_select(alloc, select),
-            Stmt::Insert { table, .. } => self.rows(alloc, table.as_slice())?,
-            Stmt::Update { table, .. } => self.rows(alloc, table.as_slice())?,
-            Stmt::Delete { table, .. } => self.rows(alloc, table.as_slice())?,
-            Stmt::Create { .. } | Stmt::Begin | Stmt::Commit | Stmt::Rollback => Rows::new(alloc),
-        };
-        let right = RowLists::new(alloc);
+    fn whole(&self, alloc: Global, statement: &Stmt) -> Result<RangeRows, WantOfMemory> {
+        let left = self.rows(alloc, left(statement))?;
+        let right = self.beside(alloc, right(statement), left.len())?;
         Ok(RangeRows { left, right })
     }
 
-    fn create(&mut self, alloc: Global, schema: &Schema) -> Result<SqlReply, Fail> {
+    /// The rows of the table with the name, so many times.
+    fn beside(
+        &self,
+        alloc: Global,
+        name: Option<&Name>,
+        times: usize,
+    ) -> Result<RowLists, WantOfMemory> {
+        let mut lists = RowLists::new(alloc);
+        for _ in 0..times {
+            lists.push(self.rows(alloc, name)?)?;
+        }
+        Ok(lists)
+    }
+
+    fn evaluated(&self, alloc: Global, statement: &Stmt) -> Result<Outcome, WantOfMemory>
+        requires { IsEvaluated statement.now }
+    {
+        let rows = self.whole(alloc, statement)?;
+        eval(alloc, statement, &self.schemas, &rows)
+    }
+
+    fn create(&mut self, alloc: Global, schema: &Schema) -> Result<SqlReply, WantOfMemory> {
+        let table = Table::new(alloc, schema.table.copy(alloc)?);
         self.schemas.push(schema.copy(alloc)?)?;
-        self.tables.push(Rows::new(alloc))?;
+        self.tables.push(table)?;
         Ok(SqlReply::Ok(0))
     }
 
-    fn change(&mut self, alloc: Global, change: &Change) -> Result<(), Fail> {
-        for (schema, rows) in self.schemas.as_slice().iter().zip(self.tables.iter_mut()) {
-            if schema.table.as_slice() == change.table.as_slice() {
-                *rows = placed(alloc, rows, schema.key, change)?;
+    fn make(&mut self, alloc: Global, change: &Change) -> Result<(), WantOfMemory> {
+        for table in &mut self.tables {
+            if table.is_named(&change.table) {
+                table.make(alloc, change)?;
             }
         }
         Ok(())
     }
 
-    fn reply(&mut self, alloc: Global, statement: &Stmt) -> Result<SqlReply, Fail> {
-        if let Stmt::Begin | Stmt::Commit | Stmt::Rollback = statement {
-            return Ok(SqlReply::NoTransaction);
-        }
-        let given = self.whole(alloc, statement)?;
-        match eval(alloc, statement, &self.schemas, &given)? {
-            Outcome::Rows(rows) => Ok(SqlReply::Rows(rows)),
-            Outcome::Refused(reply) => Ok(reply),
-            Outcome::Changes(changes) => self.take(alloc, statement, changes.as_slice()),
-        }
-    }
-
-    fn take(
-        &mut self,
-        alloc: Global,
-        statement: &Stmt,
-        changes: &[Change],
-    ) -> Result<SqlReply, Fail> {
-        if let Stmt::Create { schema } = statement {
-            return self.create(alloc, schema);
-        }
-        for change in changes {
-            self.change(alloc, change)?;
+    fn make_all(&mut self, alloc: Global, changes: &Changes) -> Result<SqlReply, WantOfMemory> {
+        for change in changes.as_slice() {
+            self.make(alloc, change)?;
         }
         Ok(SqlReply::Ok(changes.len() as u64))
     }
 
+    /// Makes the table, or else the changes of rows.
+    fn take(
+        &mut self,
+        alloc: Global,
+        schema: Option<&Schema>,
+        changes: &Changes,
+    ) -> Result<SqlReply, WantOfMemory> {
+        match schema {
+            Some(schema) => self.create(alloc, schema),
+            None => self.make_all(alloc, changes),
+        }
+    }
+
+    fn told(
+        &mut self,
+        alloc: Global,
+        schema: Option<&Schema>,
+        outcome: Outcome,
+    ) -> Result<SqlReply, WantOfMemory> {
+        match outcome {
+            Outcome::Rows(rows) => Ok(SqlReply::Rows(rows)),
+            Outcome::Refused(reply) => Ok(reply),
+            Outcome::Changes(changes) => self.take(alloc, schema, &changes),
+        }
+    }
+
+    fn reply(&mut self, alloc: Global, statement: &Stmt) -> Result<SqlReply, WantOfMemory> {
+        if !is_evaluated(statement) {
+            return Ok(SqlReply::NoTransaction);
+        }
+        let outcome = self.evaluated(alloc, statement)?;
+        self.told(alloc, made(statement), outcome)
+    }
+
+    fn run(&mut self, alloc: Global, text: &[u8]) -> Result<SqlReply, WantOfMemory> {
+        match parse(alloc, text)? {
+            Ok(statement) => self.reply(alloc, &statement),
+            Err(syntax) => Ok(SqlReply::Syntax(syntax.at)),
+        }
+    }
+
     /// What the text is answered, as it is printed.
-    pub(crate) fn answer(&mut self, alloc: Global, text: &str) -> Result<Text, Fail> {
-        let reply = match parse(alloc, text.as_bytes())? {
-            Ok(statement) => self.reply(alloc, &statement)?,
-            Err(syntax) => SqlReply::Syntax(syntax.at),
-        };
-        Ok(reply_text(alloc, b"", &reply)?)
+    pub(crate) fn answer(&mut self, alloc: Global, text: &[u8]) -> Result<Text, WantOfMemory> {
+        let reply = self.run(alloc, text)?;
+        reply_text(alloc, b"", &reply)
     }
 }
