@@ -28,6 +28,14 @@ fn null_is_neither_yes_nor_no(rt: HostRuntime) -> Result<(), WantOfMemory> {
         ("SELECT k FROM t WHERE v IS NULL", "1\nrows 1\n"),
         ("SELECT k FROM t WHERE v IS NOT NULL", "2\nrows 1\n"),
         ("SELECT v + 1, v * 0 FROM t", "NULL, NULL\n6, 0\nrows 2\n"),
+        (
+            "SELECT COUNT(*), COUNT(v), SUM(v) FROM t",
+            "2, 1, 5\nrows 1\n",
+        ),
+        (
+            "SELECT SUM(v), MIN(v), COUNT(v) FROM t WHERE k > 9",
+            "NULL, NULL, 0\nrows 1\n",
+        ),
     ];
     session(&rt, rt.alloc(), &lines)
 }
@@ -58,10 +66,6 @@ fn totals_skip_null(rt: HostRuntime) -> Result<(), WantOfMemory> {
         (
             "SELECT MIN(v), MAX(v), COUNT(v), COUNT(*) FROM t WHERE k = 1",
             "NULL, NULL, 0, 1\nrows 1\n",
-        ),
-        (
-            "SELECT SUM(v), MIN(v), COUNT(v) FROM t WHERE k > 9",
-            "NULL, NULL, 0\nrows 1\n",
         ),
     ];
     session(&rt, rt.alloc(), &lines)
@@ -104,6 +108,7 @@ fn refusals_by_their_cause(rt: HostRuntime) -> Result<(), WantOfMemory> {
             "CREATE TABLE t (k INT PRIMARY KEY, v INT)",
             "error table exists t\n",
         ),
+        ("COMMIT", "error no transaction\n"),
     ];
     session(&rt, rt.alloc(), &lines)
 }
@@ -124,6 +129,14 @@ fn a_users_session(rt: HostRuntime) -> Result<(), WantOfMemory> {
         ),
         ("UPDATE o SET c = c + 1 WHERE id >= 11;", "ok 2\n"),
         ("SELECT * FROM o;", "10, 2\n11, 2\n12, NULL\nrows 3\n"),
+        (
+            "SELECT * FROM o JOIN c ON c.id = o.c WHERE o.id > 10",
+            "11, 2, 2, 'bo''b'\nrows 1\n",
+        ),
+        (
+            "SELECT id FROM o JOIN c ON c.id = o.c",
+            "error no column id\n",
+        ),
         ("DELETE FROM o WHERE c = 2;", "ok 2\n"),
         ("SELECT * FROM o;", "12, NULL\nrows 1\n"),
     ];
@@ -179,6 +192,10 @@ fn what_is_evaluated(rt: HostRuntime) -> Result<(), WantOfMemory> {
         ),
         ("UPDATE t SET v = 9223372036854775807 + 1", "ok 0\n"),
         ("INSERT INTO t VALUES (1, NULL), (2, 7)", "ok 2\n"),
+        (
+            "SELECT k FROM t WHERE k = 2 OR v = 7 AND 9223372036854775807 + k > 0",
+            "error overflow\n",
+        ),
         (
             "SELECT k FROM t WHERE NULL + 9223372036854775807 + 1 > 0",
             "rows 0\n",

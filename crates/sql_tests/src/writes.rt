@@ -90,6 +90,7 @@ fn too_large_stands_between_null_key_and_duplicate(rt: HostRuntime) -> Result<()
             "error duplicate 'a'\n",
         ),
         ("SELECT k FROM x WHERE k < '", 65, "'", "'a'\nrows 1\n"),
+        ("SELECT k FROM x WHERE k <> NULL", 0, "", "rows 0\n"),
         ("DELETE FROM x WHERE k = '", 65, "'", "ok 0\n"),
         ("DELETE FROM x WHERE k <> '", 65, "'", "ok 1\n"),
     ];
