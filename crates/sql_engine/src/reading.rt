@@ -10,7 +10,7 @@ use crate::store::TableStore;
 use rm_base::{Name, Ranges, WantOfMemory};
 use sql_exec::{RangeRows, RowLists};
 use sql_meaning::table_named;
-use sql_plan::ranges;
+use sql_plan::Planner;
 use sql_statements::{Select, Stmt};
 use sql_values::{Row, Rows, Schema, Schemas};
 use std::alloc::Global;
@@ -27,11 +27,12 @@ pub fn read<T: TableStore>(
     ensures { (d : Database) → T.tables store.now d
         → IfOk result (λ r. r ≡ read_rows d.tables schemas.now statement.now) }
 {
+    let planner = Planner::new(alloc, statement, schemas)?;
     match statement {
-        Stmt::Insert { table, .. } => read_only(alloc, store, statement, schemas, table),
-        Stmt::Update { table, .. } => read_only(alloc, store, statement, schemas, table),
-        Stmt::Delete { table, .. } => read_only(alloc, store, statement, schemas, table),
-        Stmt::Select(select) => read_selected(alloc, store, statement, schemas, select),
+        Stmt::Insert { table, .. } => read_only(alloc, store, &planner, table),
+        Stmt::Update { table, .. } => read_only(alloc, store, &planner, table),
+        Stmt::Delete { table, .. } => read_only(alloc, store, &planner, table),
+        Stmt::Select(select) => read_selected(alloc, store, &planner, select),
         Stmt::Create { .. } | Stmt::Begin | Stmt::Commit | Stmt::Rollback => Ok(only(
             alloc,
             Rows::new(alloc),
@@ -51,35 +52,33 @@ fn only(alloc: Global, rows: Rows) -> RangeRows
 fn read_only<T: TableStore>(
     alloc: Global,
     store: &T,
-    statement: &Stmt,
-    schemas: &Schemas,
+    planner: &Planner,
     table: &Name,
 ) -> Result<RangeRows, WantOfMemory>
-    requires { (d : Database) × T.tables store.now d × AreOf schemas.now d.schemas }
+    requires { (d : Database) × T.tables store.now d × AreOf planner.now.schemas d.schemas }
     ensures { (d : Database) → T.tables store.now d
-        → IfOk result (λ r. r ≡ spec.only (spec.left_rows d.tables schemas.now statement.now table.now)) }
+        → IfOk result (λ r. r ≡ spec.only (spec.left_rows d.tables planner.now.schemas planner.now.statement table.now)) }
 {
-    let rows = rows_for(alloc, store, statement, schemas, table, None)?;
+    let rows = rows_for(alloc, store, planner, table, None)?;
     Ok(only(alloc, rows))
 }
 
 fn read_selected<T: TableStore>(
     alloc: Global,
     store: &T,
-    statement: &Stmt,
-    schemas: &Schemas,
+    planner: &Planner,
     select: &Select,
 ) -> Result<RangeRows, WantOfMemory>
-    requires { (d : Database) × T.tables store.now d × AreOf schemas.now d.schemas }
+    requires { (d : Database) × T.tables store.now d × AreOf planner.now.schemas d.schemas }
     ensures { (d : Database) → T.tables store.now d
         → IfOk result (λ r. r ≡ option_map_or
-        (λ j. spec.paired d.tables schemas.now statement.now j.right (spec.left_rows d.tables schemas.now statement.now select.now.left))
+        (λ j. spec.paired d.tables planner.now.schemas planner.now.statement j.right (spec.left_rows d.tables planner.now.schemas planner.now.statement select.now.left))
         select.now.join
-        (spec.only (spec.left_rows d.tables schemas.now statement.now select.now.left))) }
+        (spec.only (spec.left_rows d.tables planner.now.schemas planner.now.statement select.now.left))) }
 {
     match &select.join {
-        Some(join) => read_paired(alloc, store, statement, schemas, &select.left, &join.right),
-        None => read_only(alloc, store, statement, schemas, &select.left),
+        Some(join) => read_paired(alloc, store, planner, &select.left, &join.right),
+        None => read_only(alloc, store, planner, &select.left),
     }
 }
 
@@ -87,35 +86,33 @@ fn read_selected<T: TableStore>(
 fn read_paired<T: TableStore>(
     alloc: Global,
     store: &T,
-    statement: &Stmt,
-    schemas: &Schemas,
+    planner: &Planner,
     left: &Name,
     right: &Name,
 ) -> Result<RangeRows, WantOfMemory>
-    requires { (d : Database) × T.tables store.now d × AreOf schemas.now d.schemas }
+    requires { (d : Database) × T.tables store.now d × AreOf planner.now.schemas d.schemas }
     ensures { (d : Database) → T.tables store.now d
-        → IfOk result (λ r. r ≡ spec.paired d.tables schemas.now statement.now right.now (spec.left_rows d.tables schemas.now statement.now left.now)) }
+        → IfOk result (λ r. r ≡ spec.paired d.tables planner.now.schemas planner.now.statement right.now (spec.left_rows d.tables planner.now.schemas planner.now.statement left.now)) }
 {
-    let left = rows_for(alloc, store, statement, schemas, left, None)?;
-    let right = right_rows(alloc, store, statement, schemas, right, &left)?;
+    let left = rows_for(alloc, store, planner, left, None)?;
+    let right = right_rows(alloc, store, planner, right, &left)?;
     Ok(RangeRows { left, right })
 }
 
 fn right_rows<T: TableStore>(
     alloc: Global,
     store: &T,
-    statement: &Stmt,
-    schemas: &Schemas,
+    planner: &Planner,
     table: &Name,
     left: &Rows,
 ) -> Result<RowLists, WantOfMemory>
-    requires { (d : Database) × T.tables store.now d × AreOf schemas.now d.schemas }
+    requires { (d : Database) × T.tables store.now d × AreOf planner.now.schemas d.schemas }
     ensures { (d : Database) → T.tables store.now d
-        → IfOk result (λ lists. lists ≡ spec.right_rows d.tables schemas.now statement.now table.now left.now) }
+        → IfOk result (λ lists. lists ≡ spec.right_rows d.tables planner.now.schemas planner.now.statement table.now left.now) }
 {
     let mut lists = RowLists::new(alloc);
     for row in left.as_slice() {
-        lists.push(rows_for(alloc, store, statement, schemas, table, Some(row))?)?;
+        lists.push(rows_for(alloc, store, planner, table, Some(row))?)?;
     }
     Ok(lists)
 }
@@ -125,17 +122,16 @@ fn right_rows<T: TableStore>(
 fn rows_for<T: TableStore>(
     alloc: Global,
     store: &T,
-    statement: &Stmt,
-    schemas: &Schemas,
+    planner: &Planner,
     table: &Name,
     left_row: Option<&Row>,
 ) -> Result<Rows, WantOfMemory>
-    requires { (d : Database) × T.tables store.now d × AreOf schemas.now d.schemas }
+    requires { (d : Database) × T.tables store.now d × AreOf planner.now.schemas d.schemas }
     ensures { (d : Database) → T.tables store.now d
-        → IfOk result (λ rows. rows ≡ table_rows d.tables schemas.now table.now (plan.ranges schemas.now statement.now (option_map (λ r. r.now) left_row.entry))) }
+        → IfOk result (λ rows. rows ≡ table_rows d.tables planner.now.schemas table.now (plan.ranges planner.now.schemas planner.now.statement (option_map (λ r. r.now) left_row.entry))) }
 {
-    let ranges = ranges(alloc, statement, schemas, left_row)?;
-    match table_named(schemas, table) {
+    let ranges = planner.ranges(alloc, left_row)?;
+    match table_named(planner.schemas(), table) {
         Some(schema) => rows_in(alloc, store, schema, &ranges),
         None => Ok(Rows::new(alloc)),
     }

@@ -8,4 +8,4 @@ mod places;
 mod planning;
 
 pub use laws::plan_laws;
-pub use planning::ranges;
+pub use planning::{Planner, ranges};

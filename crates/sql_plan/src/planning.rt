@@ -15,10 +15,77 @@ use sql_meaning::{Action, Resolved, ResolvedList, ResolvedRows, resolve};
 use sql_statements::Stmt;
 use sql_values::{Row, Schemas, Value};
 use std::alloc::Global;
+use std::marker::Model;
 
-/// The ranges of keys that the rows of a statement can have: of its only or left table, or with a left row
-/// of its right table. A statement that is refused before anything is evaluated has none.
-#[tactic(auto, using(crate::proofs::Statements::refused_none, crate::proofs::Statements::left_if, crate::proofs::Statements::right_if))]
+/// The planner of one statement, whose names are resolved once for all its ranges. Contracts see the
+/// statement and the schemas.
+#[derive(Drop)]
+pub struct Planner<'a> {
+    statement: &'a Stmt,
+    schemas: &'a Schemas,
+    action: Option<Action>,
+}
+
+impl<'a> Model for Planner<'a> {
+    ghost use Rattle.std.specs.Coded.{codes};
+    ghost use Rattle.sql_statements.specs.contracts.expressions.Expr as e;
+    ghost use Rattle.sql_plan.specs.Planned.{IsResolved, Planned};
+
+    ghost Value = { Planned };
+
+    ghost coded = { Prim.hlevel (codes, e.the_row.coded) };
+
+    ghost view = { λ p. record { statement = p.statement.now; schemas = p.schemas.now } };
+
+    ghost invariant = { λ p. IsResolved p.schemas.now p.statement.now p.action };
+}
+
+impl<'a> Planner<'a> {
+    pub fn new(
+        alloc: Global,
+        statement: &'a Stmt,
+        schemas: &'a Schemas,
+    ) -> Result<Planner<'a>, WantOfMemory>
+        ensures statement { IfOk result (λ p. p.statement ≡ statement.now) }
+        ensures schemas { IfOk result (λ p. p.schemas ≡ schemas.now) }
+    {
+        match resolve(alloc, statement, schemas)? {
+            Ok(action) => Ok(Planner {
+                statement,
+                schemas,
+                action: Some(action),
+            }),
+            Err(_) => Ok(Planner {
+                statement,
+                schemas,
+                action: None,
+            }),
+        }
+    }
+
+    pub fn schemas(&self) -> &Schemas
+        ensures { result.now ≡ self.now.schemas }
+    {
+        self.schemas
+    }
+
+    /// The ranges of keys that the rows of the statement can have: of its only or left table, or with a left
+    /// row of its right table. A statement that is refused before anything is evaluated has none.
+    #[tactic(auto, using(crate::proofs::Statements::refused_none, crate::proofs::Statements::left_if, crate::proofs::Statements::right_if))]
+    pub fn ranges(&self, alloc: Global, left_row: Option<&Row>) -> Result<Ranges, WantOfMemory>
+        ensures { IfOk result (λ r. r ≡ spec.ranges self.now.schemas self.now.statement (option_map (λ row. row.now) left_row.entry)) }
+    {
+        let Some(action) = &self.action else {
+            return Ok(Ranges::new(alloc));
+        };
+        match left_row {
+            None => left_ranges(alloc, self.statement, self.schemas, action),
+            Some(row) => right_ranges(alloc, self.statement, self.schemas, action, row),
+        }
+    }
+}
+
+/// The ranges of a statement, for a caller that asks once.
 pub fn ranges(
     alloc: Global,
     statement: &Stmt,
@@ -27,14 +94,7 @@ pub fn ranges(
 ) -> Result<Ranges, WantOfMemory>
     ensures { IfOk result (λ r. r ≡ spec.ranges schemas.now statement.now (option_map (λ row. row.now) left_row.entry)) }
 {
-    let action = match resolve(alloc, statement, schemas)? {
-        Ok(action) => action,
-        Err(_) => return Ok(Ranges::new(alloc)),
-    };
-    match left_row {
-        None => left_ranges(alloc, statement, schemas, &action),
-        Some(row) => right_ranges(alloc, statement, schemas, &action, row),
-    }
+    Planner::new(alloc, statement, schemas)?.ranges(alloc, left_row)
 }
 
 #[tactic(auto, using(crate::proofs::Statements::insert_left, crate::proofs::Statements::update_left, crate::proofs::Statements::delete_left, crate::proofs::Statements::select_left, crate::proofs::Statements::join_left))]

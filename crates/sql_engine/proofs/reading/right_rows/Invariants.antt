@@ -7,4 +7,4 @@ use Rattle.sql_engine.proofs.reading.right_rows.Given as goal
 abbrev pub invariant-loop-row : goal.invariant-loop-row
 invariant-loop-row g l =
     (d : Database) → g.T.TableStore.tables l.store d
-    → l.lists ≡ spec.right_rows d.tables l.schemas l.statement l.table (take l.row-index l.row-items)
+    → l.lists ≡ spec.right_rows d.tables l.planner.schemas l.planner.statement l.table (take l.row-index l.row-items)
