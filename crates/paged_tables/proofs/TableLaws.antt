@@ -1,5 +1,5 @@
 -- What the calls on tables make of the database.
-use Rattle.std.proofs.Common.{◌≡◌, ◌≤◌, ℕ, List, [], ◌∷◌, ◌++◌, length, Option, Some, None, Result, Ok, Err, IfOk, OnOk, refl, sym, ap, subst, ◌∙◌, arith}
+use Rattle.std.proofs.Common.{◌≡◌, ◌≤◌, ℕ, List, [], ◌∷◌, ◌++◌, length, Option, Some, None, Result, Ok, Err, IfOk, OnOk, OnErr, refl, sym, ap, subst, ◌∙◌, arith}
 use Rattle.std.specs.Prelude.{IsOk, map, filter, option_map, option_to_list, Contains}
 use Rattle.std.specs.List.{AllByRecursion}
 use Rattle.rm_base.specs.declared.key_range.KeyRange.{KeyRange}
@@ -42,6 +42,16 @@ on_ok (Err e) P is h = absurd cc
 pub ok_at : {T E : Type 0} (r : Result T E) (P : T → Type 0) (x : T) → r ≡ Ok x → IfOk r P → P x
 ok_at (Ok y) P x is h = let same : y ≡ x = cc in subst P same h
 ok_at (Err e) P x is h = absurd cc
+
+-- an answer that is Err where another is
+pub on_err : {T U E F : Type 0} (r : Result T E) (q : Result U F) (P : Type 0) → (IsOk q → IsOk r) → OnErr q P → OnErr r P
+on_err (Ok x) q P same h = tt
+on_err {T} {U} {E} {F} (Err e) (Ok y) P same h = let no = same refl in absurd cc
+on_err (Err e) (Err f) P same h = h
+
+pub err_gives : {T E : Type 0} (r : Result T E) (P Q : Type 0) → (P → Q) → OnErr r P → OnErr r Q
+err_gives (Ok x) P Q f h = tt
+err_gives (Err e) P Q f h = f h
 
 abbrev pub pair_of : Entry → Schema × ℕ
 pair_of e = (e.schema, e.root)

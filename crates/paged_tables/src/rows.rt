@@ -1,10 +1,10 @@
-ghost use Rattle.std.specs.Prelude.{◌≡◌, ◌≤◌, ℕ, List, length, map, Contains, IfOk, OnOk};
+ghost use Rattle.std.specs.Prelude.{◌≡◌, ◌≤◌, ℕ, List, length, map, Contains, IfOk, OnOk, OnErr};
 ghost use Rattle.std.specs.List.{AllByRecursion};
 ghost use Rattle.sql_values.specs.declared.values.Value.{Value};
 ghost use Rattle.page_view.specs.Leaf.{IsLeaf, leaf_bytes};
 ghost use Rattle.page_store.specs.Stored.{pages_of};
 ghost use Rattle.tree_change.specs.Effects.{with_item};
-ghost use Rattle.tree_store.specs.Forest.{Forest, IsRoot, with_tree};
+ghost use Rattle.tree_store.specs.Forest.{Forest, IsRoot, IsFull, with_tree};
 ghost use Rattle.row_codec.specs.Records.{IsRecord, value_bytes};
 ghost use Rattle.sql_engine.specs.Sound.{IsPlaced};
 ghost use Rattle.paged_tables.specs.Items.{row_item, row_items};
@@ -68,6 +68,7 @@ fn put_row(
     ensures ok { (roots : List ℕ) (items : ℕ → List (List ℕ)) → Forest (pages_of store.old) roots items → Contains roots root
         → IfOk result (λ answer. OnOk answer (
         Forest (pages_of store.new) roots (with_tree items root (with_item key.now (row_item schema.now.key row.now) (items root))))) }
+    ensures full { IfOk result (λ answer. OnErr answer (IsFull (pages_of store.new) root)) }
     ensures kept { OnOk result (store.new.kept ≡ store.old.kept) }
 {
     let Ok(value) = value_of(alloc, schema, row)? else {
@@ -90,6 +91,7 @@ pub(crate) fn change_tree(
     ensures ok { (roots : List ℕ) (items : ℕ → List (List ℕ)) → Forest (pages_of store.old) roots items → Contains roots root
         → IfOk result (λ answer. OnOk answer (
         Forest (pages_of store.new) roots (with_tree items root (changed_items schema.now.key change.now (items root))))) }
+    ensures full { IfOk result (λ answer. OnErr answer (IsFull (pages_of store.new) root)) }
     ensures kept { OnOk result (store.new.kept ≡ store.old.kept) }
 {
     match &change.row {

@@ -1,8 +1,11 @@
-ghost use Rattle.std.specs.Prelude.{◌≡◌, ◌↔◌, ℕ, List, codes, filter, Some, IsOk, IfOk, OnOk};
+ghost use Rattle.std.specs.Prelude.{◌≡◌, ◌↔◌, ℕ, List, codes, filter, Some, IsOk, IfOk, OnOk, OnErr};
 ghost use Rattle.redo_record.specs.Spelling.{Spells};
 ghost use Rattle.redo_record.specs.Effect.{CountsFrom};
-ghost use Rattle.page_store.specs.Stored.{groups_of};
-ghost use Rattle.sql_exec.specs.Applied.{Database, empty};
+ghost use Rattle.page_store.specs.declared.TheConstants.{ROOT_PAGE};
+ghost use Rattle.page_store.specs.Stored.{groups_of, pages_of, all_kept, given_back};
+ghost use Rattle.tree_store.specs.Forest.{IsFull};
+ghost use Rattle.sql_exec.specs.Applied.{Database, empty, with_row, with_table};
+ghost use Rattle.sql_engine.specs.Sound.{CanChange, CanCreate};
 ghost use Rattle.paged_tables.specs.Content.{HoldsNow, HoldsKept};
 
 use crate::catalog::{catalog_root, entry_item, find_entry};
@@ -19,7 +22,8 @@ use std::marker::Model;
 use tree_store::{forest_laws, make_room, next_page, put_with_tree};
 
 /// Tables on the trees of a store of pages. Contracts see the groups of its log, and which database the
-/// pages hold that these leave.
+/// pages hold that these leave. After `SpaceFull` only the database is known that is kept, and after want
+/// of memory none.
 #[derive(Drop)]
 pub struct PagedTables {
     store: PageStore,
@@ -43,7 +47,7 @@ fn done(answer: Result<(), TreeNo>) -> Result<(), SpaceFull>
 }
 
 impl PagedTables {
-    /// A database with no tables, kept.
+    /// A database with no tables, which is kept. `WantOfMemory` where there is no memory for its pages.
     pub fn new(alloc: Global) -> Result<PagedTables, WantOfMemory>
         ensures now { IfOk result (λ tables. HoldsNow tables empty) }
         ensures kept { IfOk result (λ tables. HoldsKept tables empty) }
@@ -58,6 +62,7 @@ impl PagedTables {
     pub fn keep(&mut self)
         ensures now { (d : Database) → HoldsNow self.old d → HoldsNow self.new d }
         ensures kept { (d : Database) → HoldsNow self.old d → HoldsKept self.new d }
+        ensures groups { self.new ≡ all_kept self.old }
     {
         self.store.keep();
     }
@@ -66,11 +71,12 @@ impl PagedTables {
     pub fn give_back(&mut self)
         ensures now { (d : Database) → HoldsKept self.old d → HoldsNow self.new d }
         ensures kept { (d : Database) → HoldsKept self.old d → HoldsKept self.new d }
+        ensures groups { self.new ≡ given_back self.old }
     {
         self.store.give_back();
     }
 
-    /// The bytes of the log's groups that are kept.
+    /// The bytes of the log's groups that are kept. It takes no memory.
     pub fn log(&self) -> &[u8]
         ensures spelled { Spells result.now self.now.kept }
         ensures counted { CountsFrom 0 (groups_of self.now) }
@@ -103,7 +109,13 @@ impl TableStore for PagedTables {
         &mut self,
         alloc: Global,
         schema: &Schema,
-    ) -> Result<Result<(), SpaceFull>, WantOfMemory> {
+    ) -> Result<Result<(), SpaceFull>, WantOfMemory>
+        requires { (d : Database) × HoldsNow self.old d × CanCreate d.schemas schema.now }
+        ensures made { (d : Database) → HoldsNow self.old d → CanCreate d.schemas schema.now
+            → IfOk result (λ a. IsOk a → HoldsNow self.new (with_table d schema.now)) }
+        ensures keeps { (k : Database) → HoldsKept self.old k → OnOk result (HoldsKept self.new k) }
+        ensures full { IfOk result (λ a. OnErr a (IsFull (pages_of self.new) ROOT_PAGE)) }
+    {
         let catalog = catalog_root();
         // The item takes as many bytes whatever the root is.
         let item = entry_item(alloc, schema, catalog)?;
@@ -122,7 +134,13 @@ impl TableStore for PagedTables {
         &mut self,
         alloc: Global,
         change: &Change,
-    ) -> Result<Result<(), SpaceFull>, WantOfMemory> {
+    ) -> Result<Result<(), SpaceFull>, WantOfMemory>
+        requires { (d : Database) × HoldsNow self.old d × CanChange d.schemas change.now }
+        ensures made { (d : Database) → HoldsNow self.old d → CanChange d.schemas change.now
+            → IfOk result (λ a. IsOk a → HoldsNow self.new (with_row d change.now)) }
+        ensures keeps { (k : Database) → HoldsKept self.old k → OnOk result (HoldsKept self.new k) }
+        ensures full { IfOk result (λ a. OnErr a ((root : ℕ) × IsFull (pages_of self.new) root)) }
+    {
         let Some((schema, root)) = find_entry(alloc, &self.store, &change.table)? else {
             unreachable!()
         };

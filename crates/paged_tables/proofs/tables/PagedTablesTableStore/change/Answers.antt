@@ -1,8 +1,9 @@
-use Rattle.std.proofs.Common.{sym, subst, ◌∙◌}
+use Rattle.std.proofs.Common.{ℕ, sym, subst, ◌∙◌}
 use Rattle.page_store.specs.Stored.{pages_of}
+use Rattle.tree_store.specs.Forest.{IsFull}
 use Rattle.sql_values.specs.declared.schemas.Schema.{Schema}
 use Rattle.sql_engine.specs.Sound.{IsPlaced}
-use Rattle.paged_tables.proofs.TableLaws.{held, on_ok, same_pair, found_entry, entry_root, change_made}
+use Rattle.paged_tables.proofs.TableLaws.{held, on_ok, on_err, err_gives, same_pair, found_entry, entry_root, change_made}
 use Rattle.paged_tables.proofs.tables.PagedTablesTableStore.change.Goals as goal
 
 pub unreachable-requires : goal.unreachable-requires
@@ -41,3 +42,8 @@ returns-clause-made c d old can ok =
     let forest = on_ok c.in_ok-answer.answer _ (c.done.ensures.0 ok) (c.in_ok-answer.ensures.ok h.roots h.items h.forest rooted) in
     let placed = subst (λ (q : Schema). IsPlaced q c.args.change.now.key c.args.change.now.row) (sym found.2 ∙ sym pair.0) can.placed in
     change_made (pages_of c.self.inside.store) (pages_of c.change_tree.new.store) d h c.args.change.now c.in-Some.schema c.in-Some.root found.0 found.1 pair.0 pair.1 placed forest
+
+pub returns-clause-full : goal.returns-clause-full
+returns-clause-full c =
+    on_err c.done.result c.in_ok-answer.answer ((root : ℕ) × IsFull (pages_of c.change_tree.new.store) root) c.done.ensures.1
+    (err_gives c.in_ok-answer.answer (IsFull (pages_of c.change_tree.new.store) c.in-Some.root) _ (λ full. (c.in-Some.root, full)) c.in_ok-answer.ensures.full)
