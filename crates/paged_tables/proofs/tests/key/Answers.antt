@@ -1,4 +1,4 @@
-use Rattle.std.proofs.Common.{◌≤◌, Result, Ok, Err, length, refl, arith}
+use Rattle.std.proofs.Common.{Result, Ok, Err, refl, arith}
 use Rattle.std.specs.Prelude.{IsOk}
 use Rattle.std.specs.Result.{OkIff}
 use Rattle.rm_base.proofs.FieldLaws.{length-field}

@@ -1,4 +1,4 @@
-use Rattle.std.proofs.Common.{◌≡◌, ◌≤◌, ℤ, List, [], ◌∷◌, length, Option, Some, None, Result, Ok, Err, refl, sym, ap, subst, ◌∙◌, arith}
+use Rattle.std.proofs.Common.{◌≡◌, ℤ, [], ◌∷◌, Option, Some, None, Result, Ok, Err, refl, sym, ap, subst, ◌∙◌, arith}
 use Rattle.std.specs.Prelude.{codes, FitsSigned, IfSome, IsOk}
 use Rattle.std.specs.Int.{w64}
 use Rattle.std.proofs.Math.Facts.{to_z-of_z}
@@ -8,7 +8,7 @@ use Rattle.sql_values.specs.declared.values.Sort.TheVariants as sort
 use Rattle.sql_values.specs.declared.values.Value.TheVariants.{Int}
 use Rattle.row_codec.specs.Keys.{key_bytes, rank}
 use Rattle.sql_exec.specs.declared.changes.Change.{Change}
-use Rattle.sql_exec.specs.Applied.{Database, empty, with_table, with_row}
+use Rattle.sql_exec.specs.Applied.{empty, with_table, with_row}
 use Rattle.sql_engine.specs.Sound.{CanChange}
 use Rattle.paged_tables.specs.Content.{HoldsNow}
 use Rattle.paged_tables.proofs.tests.with_row.Goals as goal
