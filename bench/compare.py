@@ -5,7 +5,8 @@
 
 PROGRAM is the built program, or crates/rmemdb/out/rmemdb. Each kind is measured over a table of as many rows as it
 has statements: the time of a run with the table and the statements, less that of a run with the table alone. Of
-several runs the fastest counts. Prints for each the statements a second of both, and the ratio of the times.
+several runs the fastest counts. Prints for each the statements a second of both, the ratio of the times, the time of
+one statement, and how it grew since the smallest size. Nothing else should run meanwhile.
 """
 import os
 import shutil
@@ -78,7 +79,8 @@ def main():
     top = os.path.dirname(os.path.dirname(os.path.abspath(__file__)))
     program = sys.argv[1] if len(sys.argv) > 1 else os.path.join(top, "crates/rmemdb/out/rmemdb")
     sqlite = shutil.which("sqlite3")
-    print(f"{'kind':<16} {'size':>6} {'rmemdb/s':>10} {'sqlite3/s':>10} {'ratio':>6} {'us each':>8}")
+    each = {}
+    print(f"{'kind':<16} {'size':>6} {'rmemdb/s':>10} {'sqlite3/s':>10} {'ratio':>6} {'us each':>8} {'growth':>6}")
     with tempfile.TemporaryDirectory() as folder:
         for size in SIZES:
             for name, before, statements in kinds(size):
@@ -89,7 +91,8 @@ def main():
                     line += f" {size / theirs:>10.0f} {ours / theirs:>6.2f}"
                 else:
                     line += f" {'-':>10} {'-':>6}"
-                print(f"{line} {ours / size * 1e6:>8.2f}", flush=True)
+                growth = ours / size / each.setdefault(name, ours / size)
+                print(f"{line} {ours / size * 1e6:>8.2f} {growth:>6.2f}", flush=True)
 
 
 if __name__ == "__main__":
