@@ -1,4 +1,5 @@
 mod KnownText
+mod ToldLaws
 mod TurnsLaws
 mod OneLine
 mod SessionLaws

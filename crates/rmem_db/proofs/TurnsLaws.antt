@@ -15,6 +15,7 @@ use Rattle.rmem_db.specs.Lines.{is_blank, filled}
 use Rattle.rmem_db.specs.Serving.{IsTextFor}
 use Rattle.rmem_db.specs.Session.{Reads}
 use Rattle.rmem_db.specs.Texts.{replies_text, text_of}
+use Rattle.rmem_db.proofs.ToldLaws.{turns_told}
 
 -- ---- the text of entries
 
@@ -71,6 +72,7 @@ says answer lines rs t turns =
       replies = rs;
       entries = a.0;
       answered = a.1;
+      told = turns_told Reads (at_rest empty) lines rs t turns;
       written = ap replies_text (sym a.1.told) ∙ sym (text_in_turn Reads 1 empty 0 (codes "a") lines a.0 a.1.in_turn);
     }
 

@@ -13,7 +13,7 @@ use Rattle.rmem_db.specs.declared.status.Status.{Status}
 use Rattle.rmem_db.specs.declared.status.Status.TheVariants.{Done, BadWords, BadScript, ReadFault, WriteFault, TooLong, BadLog, WantOfMemory}
 use Rattle.rmem_db.specs.Lines.{lines, whole_lines, filled}
 use Rattle.rmem_db.specs.Reading.{Held, HasNoLf}
-use Rattle.rmem_db.specs.Session.{Reads}
+use Rattle.rmem_db.specs.Session.{IsOfOneSession, Reads}
 use Rattle.rmem_db.specs.Texts.{ended, replies_text, text_of}
 use Rattle.rmem_db.specs.Writing.{AppendsFront}
 
@@ -23,6 +23,7 @@ pub record IsTextFor (lines : List (List ℕ)) (text : List ℕ) : Type 0 where
   pub replies : List SqlReply
   pub entries : List Entry
   pub answered : AreAnswered Reads 1 empty 0 (codes "a") lines replies entries
+  pub told : AllByRecursion IsOfOneSession replies
   pub written : text ≡ text_of entries
 
 -- the source was read to its end, and the replies to all its lines were written

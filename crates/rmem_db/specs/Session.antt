@@ -3,6 +3,7 @@ use Rattle.std.specs.Prelude.{◌≡◌, ℕ, is_some, List, Result, Ok, Err}
 use Rattle.sql_statements.specs.declared.statements.Stmt.{Stmt}
 use Rattle.sql_front.specs.Sentences.{IsFirst, IsSql, IsWrongAt}
 use Rattle.sql_exec.specs.declared.replies.SqlReply.{SqlReply}
+use Rattle.sql_exec.specs.declared.replies.SqlReply.TheVariants as reply
 use Rattle.sql_exec.specs.Applied.{Database}
 use Rattle.session_state.specs.Serving.{TableState, Turn, seen}
 use Rattle.rmem_db.specs.declared.session.OneSession.{OneSession}
@@ -11,6 +12,16 @@ use Rattle.rmem_db.specs.declared.session.OneSession.{OneSession}
 abbrev pub Reads : List ℕ → Result Stmt ℕ → Type 0
 Reads text (Ok s) = IsSql text s
 Reads text (Err at) = IsFirst (IsWrongAt text) at
+
+-- what a session that is alone can be told: nothing of other writers, of nodes that fail, or of a full pool
+abbrev pub IsOfOneSession : SqlReply → Type 0
+IsOfOneSession reply.ReadOnly = ⊥
+IsOfOneSession (reply.Conflict key) = ⊥
+IsOfOneSession reply.Lost = ⊥
+IsOfOneSession reply.Unavailable = ⊥
+IsOfOneSession (reply.PoolFull n) = ⊥
+IsOfOneSession reply.TrxFull = ⊥
+IsOfOneSession r = Unit {0}
 
 -- The session's tables keep a state's tables and show what its statements see, and `in_transaction` tells
 -- whether a BEGIN opened one that is not over.
