@@ -4,19 +4,20 @@
     bench/compare.py [PROGRAM]
 
 PROGRAM is the built program, or crates/rmemdb/out/rmemdb. Each kind is measured over a table of as many rows as it
-has statements: the time of a run with the table and the statements, less that of a run with the table alone. Of
-several runs the fastest counts. Prints for each the statements a second of both, the ratio of the times, the time of
+has statements: the time of a run with the table and the statements, less that of a run with the table alone, the
+median of several such pairs. Prints for each the statements a second of both, the ratio of the times, the time of
 one statement, and how it grew since the smallest size. Nothing else should run meanwhile.
 """
 import os
 import shutil
+import statistics
 import subprocess
 import sys
 import tempfile
 import time
 
 SIZES = (1_000, 20_000)
-ROUNDS = {1_000: 15, 20_000: 5}
+ROUNDS = {1_000: 41, 20_000: 5}
 
 
 def numbers(count, below, seed):
@@ -52,27 +53,23 @@ def kinds(size):
     yield "join on a key", both, [f"SELECT u.k, v FROM u JOIN t ON t.k = u.t WHERE u.k = {k};" for k in some]
 
 
-def fastest(words, script, rounds):
-    """The least time of some runs over the script, in seconds."""
-    best = None
-    for _ in range(rounds):
-        with open(script, "rb") as given:
-            start = time.perf_counter()
-            subprocess.run(words, stdin=given, stdout=subprocess.DEVNULL, check=True)
-            spent = time.perf_counter() - start
-        best = spent if best is None else min(best, spent)
-    return best
+def spent(words, script):
+    """The time of a run over the script, in seconds."""
+    with open(script, "rb") as given:
+        start = time.perf_counter()
+        subprocess.run(words, stdin=given, stdout=subprocess.DEVNULL, check=True)
+        return time.perf_counter() - start
 
 
 def measured(words, before, statements, folder, rounds):
-    """The time of the statements alone."""
-    times = []
+    """The time of the statements alone: the median of the differences of two runs, one behind the other."""
+    paths = []
     for name, lines in (("before", before), ("whole", before + statements)):
-        path = os.path.join(folder, name)
-        with open(path, "w") as out:
+        paths.append(os.path.join(folder, name))
+        with open(paths[-1], "w") as out:
             out.write("\n".join(lines) + "\n")
-        times.append(fastest(words, path, rounds))
-    return max(times[1] - times[0], 1e-9)
+    apart = [-spent(words, paths[0]) + spent(words, paths[1]) for _ in range(rounds)]
+    return max(statistics.median(apart), 1e-9)
 
 
 def main():
