@@ -1,7 +1,5 @@
-//! What no clause says: whole sessions, and sources and sinks that fail. Where the tables do not matter,
-//! they are ones that do no statement.
+//! What no clause says: whole sessions, and sources and sinks that fail.
 mod long_session;
-mod no_tables;
 mod plain;
 mod rows;
 mod runs;

@@ -1,6 +1,5 @@
-use crate::running::run_over;
+use crate::running::run;
 use crate::status::Status;
-use crate::tests::no_tables::NoTables;
 use rm_base::Items;
 use rm_env::{MemSink, MemSource, QuietSink, QuietSource};
 use std::alloc::Global;
@@ -23,7 +22,7 @@ fn served(alloc: Global, input: &[u8], piece: usize) -> Result<(Status, Vec<u8>)
     let bytes = Items::from_vec(input.to_vec(alloc)?);
     let mut source = QuietSource::new(bytes).in_pieces(piece.max(1));
     let mut sink = QuietSink::new(alloc);
-    let status = run_over(alloc, NoTables, &serve(alloc)?, &mut source, &mut sink);
+    let status = run(alloc, &serve(alloc)?, &mut source, &mut sink);
     Ok((status, sink.taken().to_vec(alloc)?))
 }
 
@@ -66,15 +65,6 @@ fn lines_are_parted_at_line_feeds(rt: HostRuntime) -> Result<(), Fail> {
 }
 
 #[test]
-fn a_statement_that_wants_memory_ends_the_run(rt: HostRuntime) -> Result<(), Fail> {
-    let input = b"BEGIN\nSELECT * FROM t\nCOMMIT\n";
-    let (status, output) = served(rt.alloc(), input, 65_536)?;
-    assert_eq!(rt; status, Status::WantOfMemory);
-    assert_eq!(rt; output.as_slice(), b"ok 0\n".as_slice());
-    Ok(())
-}
-
-#[test]
 fn an_input_past_the_limit_is_too_long(rt: HostRuntime) -> Result<(), Fail> {
     let alloc = rt.alloc();
     for (length, end, want) in [
@@ -100,7 +90,7 @@ fn other_words_are_refused(rt: HostRuntime) -> Result<(), Fail> {
         let mut source = QuietSource::new(Items::from_vec(b"x\n".to_vec(alloc)?));
         let mut sink = QuietSink::new(alloc);
         assert_eq!(rt;
-            run_over(alloc, NoTables, &words, &mut source, &mut sink),
+            run(alloc, &words, &mut source, &mut sink),
             Status::BadWords
         );
         assert_eq!(rt; sink.taken(), b"bad words\n".as_slice());
@@ -113,7 +103,7 @@ fn broken(alloc: Global, read_fails: u64, write_fails: u64) -> Result<(Status, u
     let bytes = Items::from_vec(ROW.as_bytes().to_vec(alloc)?);
     let mut source = MemSource::new(bytes, vec![in alloc; read_fails]?).in_pieces(20);
     let mut sink = MemSink::new(alloc, vec![in alloc; write_fails]?);
-    let status = run_over(alloc, NoTables, &serve(alloc)?, &mut source, &mut sink);
+    let status = run(alloc, &serve(alloc)?, &mut source, &mut sink);
     let taken = sink.taken();
     Ok((
         status,
@@ -172,7 +162,7 @@ fn a_sink_may_take_a_byte_at_a_time(rt: HostRuntime) -> Result<(), Fail> {
     let bytes = Items::from_vec(ROW.as_bytes().to_vec(alloc)?);
     let mut source = QuietSource::new(bytes);
     let mut sink = MemSink::new(alloc, Vec::new(alloc)).in_pieces(1);
-    let status = run_over(alloc, NoTables, &serve(alloc)?, &mut source, &mut sink);
+    let status = run(alloc, &serve(alloc)?, &mut source, &mut sink);
     assert_eq!(rt; status, Status::Done);
     assert_eq!(rt; sink.taken(), ROW_OUTPUT.as_bytes());
     Ok(())

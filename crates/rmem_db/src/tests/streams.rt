@@ -1,8 +1,7 @@
 ghost use Rattle.std.specs.Prelude.{None};
 
-use crate::running::run_over;
+use crate::running::run;
 use crate::status::Status;
-use crate::tests::no_tables::NoTables;
 use rm_env::{Failed, Sink, SinkNo, Source};
 use std::cell::Cell;
 use std::rc::Rc;
@@ -69,10 +68,7 @@ fn a_line_is_answered_before_more_is_read(rt: HostRuntime) -> Result<(), Fail> {
     };
     let mut words = Vec::new(alloc);
     words.push(String::from_str(alloc, "serve")?)?;
-    assert_eq!(rt;
-        run_over(alloc, NoTables, &words, &mut source, &mut sink),
-        Status::Done
-    );
+    assert_eq!(rt; run(alloc, &words, &mut source, &mut sink), Status::Done);
     assert_eq!(rt; late.get(), false);
     assert_eq!(rt; written.get(), 5);
     Ok(())
