@@ -6,32 +6,8 @@ ghost use Rattle.redo_record.specs.Spelling.{counted, record_bytes, records_byte
 use crate::redo::{
     CUT, GROUP_HEADER_BYTES, Group, INSERT_SLOT, LINK, MAKE, PATCH, REMOVE_SLOT, Record,
 };
-use rm_base::{Bytes, Items, WantOfMemory, put_u16, put_u32, put_u64};
+use rm_base::{Bytes, Items, WantOfMemory, push_u16, push_u32, push_u64};
 use std::alloc::Global;
-
-fn push_u16(out: &mut Bytes, v: u16) -> Result<(), WantOfMemory>
-    ensures { OnOk result (out.new ≡ out.old ++ field 2 v) }
-{
-    let mut bytes = [0; 2];
-    put_u16(&mut bytes, 0, v);
-    out.append(&bytes)
-}
-
-fn push_u32(out: &mut Bytes, v: u32) -> Result<(), WantOfMemory>
-    ensures { OnOk result (out.new ≡ out.old ++ field 4 v) }
-{
-    let mut bytes = [0; 4];
-    put_u32(&mut bytes, 0, v);
-    out.append(&bytes)
-}
-
-fn push_u64(out: &mut Bytes, v: u64) -> Result<(), WantOfMemory>
-    ensures { OnOk result (out.new ≡ out.old ++ field 8 v) }
-{
-    let mut bytes = [0; 8];
-    put_u64(&mut bytes, 0, v);
-    out.append(&bytes)
-}
 
 /// Bytes behind their number.
 fn push_counted(out: &mut Bytes, bytes: &[u8]) -> Result<(), WantOfMemory>

@@ -1,6 +1,8 @@
-ghost use Rattle.std.specs.Prelude.{◌≡◌, ◌+◌, ◌≤◌, length, drop};
-ghost use Rattle.rm_base.specs.Fields.{number, with_field, ReadsBack, PutsBack, OrderedAsNumbers};
+ghost use Rattle.std.specs.Prelude.{◌≡◌, ◌+◌, ◌++◌, ◌≤◌, OnOk, OnErr, length, drop};
+ghost use Rattle.rm_base.specs.Fields.{field, number, with_field, ReadsBack, PutsBack, OrderedAsNumbers};
 
+use crate::errors::WantOfMemory;
+use crate::items::Items;
 use byteorder::{BigEndian, ByteOrder};
 
 /// The number in the 2 bytes from `at` on, the highest byte first.
@@ -52,6 +54,36 @@ pub fn put_u64(bytes: &mut [u8], at: usize, v: u64)
     ensures { bytes.new ≡ with_field 8 bytes.old at v }
 {
     BigEndian::write_u64(&mut bytes[at..], v);
+}
+
+/// Adds `v` as 2 bytes, the highest byte first. `WantOfMemory` leaves the list as it was.
+pub fn push_u16(out: &mut Items<u8>, v: u16) -> Result<(), WantOfMemory>
+    ensures ok { OnOk result (out.new ≡ out.old ++ field 2 v) }
+    ensures err { OnErr result (out.new ≡ out.old) }
+{
+    let mut bytes = [0; 2];
+    put_u16(&mut bytes, 0, v);
+    out.append(&bytes)
+}
+
+/// Adds `v` as 4 bytes, the highest byte first. `WantOfMemory` leaves the list as it was.
+pub fn push_u32(out: &mut Items<u8>, v: u32) -> Result<(), WantOfMemory>
+    ensures ok { OnOk result (out.new ≡ out.old ++ field 4 v) }
+    ensures err { OnErr result (out.new ≡ out.old) }
+{
+    let mut bytes = [0; 4];
+    put_u32(&mut bytes, 0, v);
+    out.append(&bytes)
+}
+
+/// Adds `v` as 8 bytes, the highest byte first. `WantOfMemory` leaves the list as it was.
+pub fn push_u64(out: &mut Items<u8>, v: u64) -> Result<(), WantOfMemory>
+    ensures ok { OnOk result (out.new ≡ out.old ++ field 8 v) }
+    ensures err { OnErr result (out.new ≡ out.old) }
+{
+    let mut bytes = [0; 8];
+    put_u64(&mut bytes, 0, v);
+    out.append(&bytes)
 }
 
 /// The laws of a field of `n` bytes: what is read is the number that was put; putting back the number

@@ -15,7 +15,9 @@ mod tests;
 
 pub use errors::{BadLog, WantOfMemory};
 pub use few::{Few, Full};
-pub use fields::{field_laws, get_u16, get_u32, get_u64, put_u16, put_u32, put_u64};
+pub use fields::{
+    field_laws, get_u16, get_u32, get_u64, push_u16, push_u32, push_u64, put_u16, put_u32, put_u64,
+};
 pub use identifiers::{
     CallNo, Epoch, Incarnation, Lsn, MsgNo, NodeId, PageId, SessionId, SlabId, Stamp, TrxId,
 };

@@ -24,6 +24,16 @@ fn fields_write_the_highest_byte_first(rt: HostRuntime) {
 }
 
 #[test]
+fn fields_join_a_list_highest_byte_first(rt: HostRuntime) -> Result<(), Fail> {
+    let mut bytes = Items::new(rt.alloc());
+    push_u32(&mut bytes, 21)?;
+    push_u64(&mut bytes, 9)?;
+    push_u16(&mut bytes, 4135)?;
+    assert_eq!(rt; bytes.as_slice(), BYTES.as_slice());
+    Ok(())
+}
+
+#[test]
 fn identifiers_end_at_their_bounds(rt: HostRuntime) {
     assert_eq!(rt; NodeId::new(15).map(|n| n.number()), Some(15));
     assert_eq!(rt; NodeId::new(16), None);

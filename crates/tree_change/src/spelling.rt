@@ -1,36 +1,12 @@
 //! The bytes of the items that plans put into pages.
-ghost use Rattle.std.specs.Prelude.{◌≡◌, ◌≤◌, ◌++◌, length, OnOk, IfOk};
+ghost use Rattle.std.specs.Prelude.{◌≡◌, ◌≤◌, length, IfOk};
 ghost use Rattle.rm_base.specs.Fields.{field};
 ghost use Rattle.page_view.specs.Leaf.{leaf_bytes, IsLeaf};
 ghost use Rattle.page_view.specs.Inner.{inner_bytes};
 
 use page_view::LeafItem;
-use rm_base::{Bytes, Items, PageId, WantOfMemory, put_u16, put_u32, put_u64};
+use rm_base::{Bytes, Items, PageId, WantOfMemory, push_u16, push_u32, push_u64};
 use std::alloc::Global;
-
-fn push_u16(out: &mut Bytes, v: u16) -> Result<(), WantOfMemory>
-    ensures { OnOk result (out.new ≡ out.old ++ field 2 v) }
-{
-    let mut bytes = [0; 2];
-    put_u16(&mut bytes, 0, v);
-    out.append(&bytes)
-}
-
-fn push_u32(out: &mut Bytes, v: u32) -> Result<(), WantOfMemory>
-    ensures { OnOk result (out.new ≡ out.old ++ field 4 v) }
-{
-    let mut bytes = [0; 4];
-    put_u32(&mut bytes, 0, v);
-    out.append(&bytes)
-}
-
-fn push_u64(out: &mut Bytes, v: u64) -> Result<(), WantOfMemory>
-    ensures { OnOk result (out.new ≡ out.old ++ field 8 v) }
-{
-    let mut bytes = [0; 8];
-    put_u64(&mut bytes, 0, v);
-    out.append(&bytes)
-}
 
 /// The bytes of a page's number.
 pub(crate) fn number_bytes(alloc: Global, v: u32) -> Result<Bytes, WantOfMemory>
