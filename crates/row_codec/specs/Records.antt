@@ -1,5 +1,5 @@
 -- A row as a leaf item's key and value.
-use Rattle.std.specs.Prelude.{◌≡◌, ◌≢◌, ◌≤◌, ◌+◌, ℕ, List, [], ◌∷◌, ◌++◌, length, slice_get, slice_index_or, take, drop, IsSomeAnd, FitsSigned}
+use Rattle.std.specs.Prelude.{◌≡◌, ◌≢◌, ◌≤◌, ◌+◌, ℕ, Bool, nat_le, List, [], ◌∷◌, ◌++◌, length, slice_get, slice_index_or, take, drop, IsSomeAnd, FitsSigned}
 use Rattle.std.specs.List.{flat_map}
 use Rattle.std.specs.Int.{w64, cast_unsigned}
 use Rattle.rm_base.specs.Fields.{field}
@@ -25,9 +25,17 @@ cells_bytes cells = flat_map cell_bytes cells
 abbrev pub value_bytes : ℕ → List Value → List ℕ
 value_bytes key row = cells_bytes (take key row) ++ cells_bytes (drop (key + 1) row)
 
+-- the key's value of a row
+abbrev pub key_cell : ℕ → List Value → Value
+key_cell key row = slice_index_or row key Null
+
 -- the bytes of a leaf item with that key and value: both, and 16 bytes beside them
 abbrev pub record_length : List ℕ → List ℕ → ℕ
 record_length key value = RECORD_OVERHEAD + length key + length value
+
+-- whether the leaf item of a row, whose key is the cell at that place, is not too large
+abbrev pub fits_record : ℕ → List Value → Bool
+fits_record key row = nat_le (record_length (key_bytes (key_cell key row)) (value_bytes key row)) LARGEST_RECORD
 
 -- the cells fit the columns, one for one
 abbrev pub FitColumns : List Column → List Value → Type 0
@@ -44,10 +52,6 @@ HasKey row key = IsSomeAnd (slice_get row key) (λ k. k ≢ Null)
 pub record FitsSchema (schema : Schema) (row : List Value) : Type 0 where
   pub cells : FitColumns schema.columns row
   pub key : HasKey row schema.key
-
--- the key's value of a row
-abbrev pub key_cell : ℕ → List Value → Value
-key_cell key row = slice_index_or row key Null
 
 -- the INTs of a row are i64
 abbrev pub AreI64 : List Value → Type 0

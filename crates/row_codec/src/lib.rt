@@ -4,6 +4,7 @@
 
 mod fitting;
 mod keys;
+mod lengths;
 mod reading;
 mod spelling;
 #[cfg(test)]
@@ -11,6 +12,7 @@ mod tests;
 
 pub use fitting::fits_schema;
 pub use keys::{LONGEST_KEY, key_laws, key_of};
+pub use lengths::fits_record;
 pub use reading::{row_laws, row_of};
 pub use spelling::{LARGEST_RECORD, RECORD_OVERHEAD, value_of};
 use thiserror::Error;

@@ -1,9 +1,10 @@
-ghost use Rattle.std.specs.Prelude.{◌≡◌, ◌≤◌, ◌<◌, ◌+◌, ◌-◌, ◌^◌, ◌++◌, length, min, IfOk, OnOk, OnErr, take, drop};
+ghost use Rattle.std.specs.Prelude.{◌≡◌, ◌≤◌, ◌<◌, ◌+◌, ◌++◌, length, IfOk, OnOk, OnErr, take, drop};
 ghost use Rattle.std.specs.Result.{OkIff};
 ghost use Rattle.row_codec.specs.Keys.{key_bytes};
 ghost use Rattle.row_codec.specs.Records.{cell_bytes, cells_bytes, value_bytes, key_cell, record_length, FitsSchema};
 
 use crate::TooLarge;
+use crate::lengths::fits_record;
 use rm_base::{Bytes, WantOfMemory, put_u16, put_u64};
 use sql_values::{Row, Schema, Value};
 use std::alloc::Global;
@@ -26,53 +27,13 @@ pub fn value_of(
 {
     let key = usize::from(schema.key);
     let cells = row.as_slice();
-    let before = cells_length(&cells[..key]);
-    let after = cells_length(&cells[key + 1..]);
-    let room = LARGEST_RECORD - RECORD_OVERHEAD;
-    if key_length(&cells[key])
-        .saturating_add(before)
-        .saturating_add(after)
-        > room
-    {
+    if !fits_record(key, cells) {
         return Ok(Err(TooLarge));
     }
     let mut value = Bytes::new(alloc);
     append_cells(&mut value, &cells[..key])?;
     append_cells(&mut value, &cells[key + 1..])?;
     Ok(Ok(value))
-}
-
-#[tactic(auto, using(crate::proofs::SpellingLaws::field_length))]
-fn key_length(value: &Value) -> usize
-    ensures { result ≡ length (key_bytes value.now) }
-{
-    match value {
-        Value::Null => 0,
-        Value::Int(_) => 8,
-        Value::Text(text) => text.len(),
-    }
-}
-
-/// The bytes of the cells, or the last usize where they are more.
-fn cells_length(cells: &[Value]) -> usize
-    ensures { result ≡ min (length (cells_bytes cells.now)) (2 ^ 64 - 1) }
-{
-    let mut total = 0usize;
-    for cell in cells {
-        total = total.saturating_add(cell_length(cell));
-    }
-    total
-}
-
-#[tactic(auto, using(crate::proofs::SpellingLaws::field_length))]
-fn cell_length(cell: &Value) -> usize
-    ensures { result ≡ min (length (cell_bytes cell.now)) (2 ^ 64 - 1) }
-{
-    match cell {
-        Value::Null => 1,
-        Value::Int(_) => 9,
-        Value::Text(text) => text.len().saturating_add(3),
-    }
 }
 
 fn append_cells(value: &mut Bytes, cells: &[Value]) -> Result<(), WantOfMemory>

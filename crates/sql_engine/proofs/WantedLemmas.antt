@@ -8,7 +8,7 @@ use Rattle.sql_values.specs.declared.schemas.Schema.{Schema}
 use Rattle.sql_values.specs.declared.values.Value.{Value}
 use Rattle.row_codec.specs.declared.TooLarge.{TooLarge}
 use Rattle.row_codec.specs.Keys.{key_bytes}
-use Rattle.row_codec.specs.Records.{FitsSchema, key_cell, record_length, value_bytes}
+use Rattle.row_codec.specs.Records.{FitsSchema, fits_record, key_cell, record_length, value_bytes}
 use Rattle.sql_statements.specs.declared.statements.Stmt.{Stmt}
 use Rattle.sql_statements.specs.declared.statements.Stmt.TheVariants as stmt
 use Rattle.sql_meaning.specs.declared.actions.OrderPlace.{OrderPlace}
@@ -27,7 +27,7 @@ use Rattle.sql_exec.specs.declared.changes.Change.{Change}
 use Rattle.sql_exec.specs.declared.replies.SqlReply.TheVariants as reply
 use Rattle.sql_exec.specs.Answer.{Answer, Does, Gives, GivesKept, deletes, inserted, inserts, of_rows, on_target, placed_rows, refused, removed_rows, reply_of, row_or_overflow, rows, rows_or_overflow, source, target, updates, wanted, wants}
 use Rattle.sql_exec.specs.Applied.{AnswersOver, Database}
-use Rattle.sql_exec.specs.Changes.{creation, first_repeat, fits_key, fits_record, keys_of, placing, removal}
+use Rattle.sql_exec.specs.Changes.{creation, first_repeat, fits_key, keys_of, placing, removal}
 use Rattle.sql_exec.specs.Kept.{each, kept, set_all, values_in}
 use Rattle.sql_exec.specs.Database.{whole}
 use Rattle.sql_exec.specs.Order.{limited}

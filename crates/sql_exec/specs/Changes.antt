@@ -10,16 +10,14 @@ use Rattle.sql_values.specs.declared.schemas.Column.{Column}
 use Rattle.sql_values.specs.declared.schemas.Schema.{Schema}
 use Rattle.sql_values.specs.Order.{value_cmp}
 use Rattle.row_codec.specs.declared.TooLarge.{TooLarge}
+use Rattle.row_codec.specs.declared.keys.TheConstants.{LONGEST_KEY}
 use Rattle.row_codec.specs.Keys.{key_bytes}
-use Rattle.row_codec.specs.Records.{key_cell, value_bytes, record_length}
+use Rattle.row_codec.specs.Records.{fits_record, key_cell}
 use Rattle.sql_exec.specs.declared.changes.Change.{Change}
 
--- the limits of a key and of a leaf record
+-- the limit of a key
 abbrev pub fits_key : List ℕ → Bool
-fits_key key = nat_le (length key) 64
-
-abbrev pub fits_record : ℕ → List Value → Bool
-fits_record key row = nat_le (record_length (key_bytes (key_cell key row)) (value_bytes key row)) 1000
+fits_key key = nat_le (length key) LONGEST_KEY
 
 -- the row that stands under its key from now on
 unfoldable pub placing : Schema → List Value → Result Change TooLarge

@@ -1,11 +1,11 @@
-ghost use Rattle.std.specs.Prelude.{◌≡◌, ◌+◌, ◌-◌, ◌^◌, ◌++◌, ◌≤◌, IfOk, OnOk, length, min, take, drop, codes, flat_map};
+ghost use Rattle.std.specs.Prelude.{◌≡◌, ◌++◌, ◌≤◌, IfOk, OnOk, length, codes, flat_map};
 ghost use Rattle.std.specs.Result.{OkIff};
 ghost use Rattle.row_codec.specs.Keys.{key_bytes};
-ghost use Rattle.row_codec.specs.Records.{cell_bytes, cells_bytes, key_cell, record_length, value_bytes};
-ghost use Rattle.sql_exec.specs.Changes.{column_cells, creation, fits_record, placing, removal, schema_row, sort_number};
+ghost use Rattle.row_codec.specs.Records.{fits_record, key_cell};
+ghost use Rattle.sql_exec.specs.Changes.{column_cells, creation, placing, removal, schema_row, sort_number};
 
 use rm_base::{Bytes, Duplicate, Items, Name, Text, WantOfMemory};
-use row_codec::{LARGEST_RECORD, LONGEST_KEY, RECORD_OVERHEAD, TooLarge, key_of};
+use row_codec::{LONGEST_KEY, TooLarge, fits_record, key_of};
 use sql_values::{Column, Row, Schema, Sort, Value};
 use std::alloc::Global;
 
@@ -31,7 +31,7 @@ pub fn place_row(
 {
     let place = usize::from(schema.key);
     match bytes_at(alloc, row.as_slice(), place)? {
-        Ok(key) if fits(place, row.as_slice()) => Ok(Ok(Change {
+        Ok(key) if fits_record(place, row.as_slice()) => Ok(Ok(Change {
             table: schema.table.copy(alloc)?,
             key,
             row: Some(row.copy(alloc)?),
@@ -70,54 +70,6 @@ fn bytes_at(
     match row.get(place) {
         None | Some(Value::Null) => Ok(Ok(Bytes::new(alloc))),
         Some(value) => key_of(alloc, value),
-    }
-}
-
-/// Whether the row's leaf record is not too large.
-fn fits(place: usize, row: &[Value]) -> bool
-    ensures { result ≡ fits_record place row.now }
-{
-    let at = place.min(row.len());
-    let before = cells_length(&row[..at]);
-    let after = cells_length(&row[(place.saturating_add(1)).min(row.len())..]);
-    let key = key_length(row, place);
-    RECORD_OVERHEAD
-        .saturating_add(key)
-        .saturating_add(before)
-        .saturating_add(after)
-        <= LARGEST_RECORD
-}
-
-#[tactic(auto, using(row_codec::proofs::SpellingLaws::field_length))]
-fn key_length(row: &[Value], place: usize) -> usize
-    ensures { result ≡ length (key_bytes (key_cell place row.now)) }
-{
-    match row.get(place) {
-        None | Some(Value::Null) => 0,
-        Some(Value::Int(_)) => 8,
-        Some(Value::Text(text)) => text.len(),
-    }
-}
-
-/// The bytes of the cells, or the last usize where they are more.
-fn cells_length(cells: &[Value]) -> usize
-    ensures { result ≡ min (length (cells_bytes cells.now)) (2 ^ 64 - 1) }
-{
-    let mut total = 0usize;
-    for cell in cells {
-        total = total.saturating_add(cell_length(cell));
-    }
-    total
-}
-
-#[tactic(auto, using(row_codec::proofs::SpellingLaws::field_length))]
-fn cell_length(cell: &Value) -> usize
-    ensures { result ≡ min (length (cell_bytes cell.now)) (2 ^ 64 - 1) }
-{
-    match cell {
-        Value::Null => 1,
-        Value::Int(_) => 9,
-        Value::Text(text) => text.len().saturating_add(3),
     }
 }
 

@@ -2,7 +2,7 @@ use Rattle.std.proofs.Common.{◌≡◌, length, ap, arith}
 use Rattle.sql_values.specs.declared.values.Value.TheVariants.{Text}
 use Rattle.row_codec.specs.Records.{cell_bytes}
 use Rattle.row_codec.proofs.SpellingLaws.{text_length}
-use Rattle.sql_exec.proofs.changes.cell_length.Goals as goal
+use Rattle.row_codec.proofs.lengths.cell_length.Goals as goal
 
 pub returns-in-Text : goal.returns-in-Text
 returns-in-Text c =
