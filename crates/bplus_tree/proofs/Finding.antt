@@ -1,5 +1,5 @@
 -- What searches find in a tree that stands.
-use Rattle.std.proofs.Common.{◌≡◌, ◌<◌, ◌≤◌, ◌+◌, ◌||◌, ◌&&◌, Bool, true, false, not, ℕ, zero, suc, List, [], ◌∷◌, ◌++◌, length, map, Option, Some, None, inl, refl, sym, ◌∙◌, ap, subst, arith}
+use Rattle.std.proofs.Common.{◌≡◌, ◌<◌, ◌≤◌, ◌+◌, ◌||◌, ◌&&◌, Bool, true, false, not, ℕ, zero, suc, List, [], ◌∷◌, ◌++◌, length, map, Option, Some, None, inl, refl, sym, ◌∙◌, ap, subst, arith, append-nil}
 use Rattle.std.specs.Prelude.{nat_eq}
 use Rattle.std.specs.List.{AllByRecursion, filter, list_any}
 use Rattle.std.specs.Ordering.{is_lt, is_eq}
@@ -133,16 +133,12 @@ filter_none : (test : List ℕ → Bool) (xs : List (List ℕ)) → AllByRecursi
 filter_none test [] a = refl
 filter_none test (x ∷ xs) a = rw a.0 (filter_none test xs a.1)
 
-append_nil : (xs : List (List ℕ)) → xs ++ [] ≡ xs
-append_nil [] = refl
-append_nil (x ∷ xs) = ap (λ (ys : List (List ℕ)). x ∷ ys) (append_nil xs)
-
 -- what lies between items that do not pass
 filter_between : (test : List ℕ → Bool) (a b c : List (List ℕ)) → AllByRecursion (λ x. test x ≡ false) a → AllByRecursion (λ x. test x ≡ false) c
     → filter test (a ++ (b ++ c)) ≡ filter test b
 filter_between test a b c p q =
     filter-append test a (b ++ c) ∙ (ap (λ (xs : List (List ℕ)). xs ++ filter test (b ++ c)) (filter_none test a p)
-    ∙ (filter-append test b c ∙ (ap (λ (xs : List (List ℕ)). filter test b ++ xs) (filter_none test c q) ∙ append_nil (filter test b))))
+    ∙ (filter-append test b c ∙ (ap (λ (xs : List (List ℕ)). filter test b ++ xs) (filter_none test c q) ∙ append-nil (filter test b))))
 
 found_between : (test : List ℕ → Bool) (items a bc b c : List (List ℕ)) → items ≡ a ++ bc → bc ≡ b ++ c → AllByRecursion (λ x. test x ≡ false) a
     → AllByRecursion (λ x. test x ≡ false) c → filter test b ≡ filter test items

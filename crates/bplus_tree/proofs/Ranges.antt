@@ -1,5 +1,5 @@
 -- The items of a part of a tree ascend within its bounds, and are those of its leaves in order.
-use Rattle.std.proofs.Common.{◌≡◌, ◌≢◌, ℕ, zero, suc, List, [], ◌∷◌, ◌++◌, Option, Some, None, refl, sym, ◌∙◌, ap, subst}
+use Rattle.std.proofs.Common.{◌≡◌, ◌≢◌, ℕ, zero, suc, List, [], ◌∷◌, ◌++◌, Option, Some, None, refl, sym, ◌∙◌, ap, subst, append-nil}
 use Rattle.std.specs.List.{AllByRecursion, flat_map}
 use Rattle.std.specs.declared.cmp.Ordering.TheVariants.{Less, Greater}
 use Rattle.std.proofs.lemmas.List.Elements.{filter-append}
@@ -50,10 +50,6 @@ parts_within pages level ih (entry ∷ (next ∷ rest)) low high items nodes (fi
           ∙ ap (flat_map (λ page. (pages page).items)) (sym (filter-append (λ page. is_leaf (pages page).kind) left right))));
     }))
 
-pub append_nil : (xs : List (List ℕ)) → xs ++ [] ≡ xs
-append_nil [] = refl
-append_nil (x ∷ xs) = ap (λ (ys : List (List ℕ)). x ∷ ys) (append_nil xs)
-
 -- the page itself is the one leaf
 pub one_leaf : (pages : ℕ → Image) (page : ℕ) → (pages page).kind ≡ kind.Leaf → leaves_of pages (page ∷ []) ≡ page ∷ []
 one_leaf pages page e = rw e refl
@@ -68,7 +64,7 @@ within pages zero page low high items nodes (leaf, one) =
       from = leaf.from;
       below = leaf.below;
       sorted = sorted_from items leaf.ascend;
-      joined = sym leaf.has ∙ (sym (append_nil (pages page).items) ∙ ap (flat_map (λ page. (pages page).items)) (sym (one_leaf pages page leaf.kind)));
+      joined = sym leaf.has ∙ (sym (append-nil (pages page).items) ∙ ap (flat_map (λ page. (pages page).items)) (sym (one_leaf pages page leaf.kind)));
     })
 within pages (suc level) page low high items nodes (entries, below, inner, parts, made) =
     let w : Within pages low high items below = parts_within pages level (within pages level) entries low high items below parts in
