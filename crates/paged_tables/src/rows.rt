@@ -69,7 +69,7 @@ fn put_row(
         → IfOk result (λ answer. OnOk answer (
         Forest (pages_of store.new) roots (with_tree items root (with_item key.now (row_item schema.now.key row.now) (items root))))) }
     ensures full { IfOk result (λ answer. OnErr answer (IsFull (pages_of store.new) root)) }
-    ensures kept { OnOk result (store.new.kept ≡ store.old.kept) }
+    ensures kept { store.new.kept ≡ store.old.kept }
 {
     let Ok(value) = value_of(alloc, schema, row)? else {
         unreachable!()
@@ -92,7 +92,7 @@ pub(crate) fn change_tree(
         → IfOk result (λ answer. OnOk answer (
         Forest (pages_of store.new) roots (with_tree items root (changed_items schema.now.key change.now (items root))))) }
     ensures full { IfOk result (λ answer. OnErr answer (IsFull (pages_of store.new) root)) }
-    ensures kept { OnOk result (store.new.kept ≡ store.old.kept) }
+    ensures kept { store.new.kept ≡ store.old.kept }
 {
     match &change.row {
         None => take_out(alloc, store, root, change.key.as_slice()),

@@ -22,8 +22,7 @@ use std::marker::Model;
 use tree_store::{forest_laws, make_room, next_page, put_with_tree};
 
 /// Tables on the trees of a store of pages. Contracts see the groups of its log, and which database the
-/// pages hold that these leave. After `SpaceFull` only the database is known that is kept, and after want
-/// of memory none.
+/// pages hold that these leave. After `SpaceFull` or want of memory only the database that is kept is known.
 #[derive(Drop)]
 pub struct PagedTables {
     store: PageStore,
@@ -113,7 +112,7 @@ impl TableStore for PagedTables {
         requires { (d : Database) × HoldsNow self.old d × CanCreate d.schemas schema.now }
         ensures made { (d : Database) → HoldsNow self.old d → CanCreate d.schemas schema.now
             → IfOk result (λ a. IsOk a → HoldsNow self.new (with_table d schema.now)) }
-        ensures keeps { (k : Database) → HoldsKept self.old k → OnOk result (HoldsKept self.new k) }
+        ensures keeps { (k : Database) → HoldsKept self.old k → HoldsKept self.new k }
         ensures full { IfOk result (λ a. OnErr a (IsFull (pages_of self.new) ROOT_PAGE)) }
     {
         let catalog = catalog_root();
@@ -138,7 +137,7 @@ impl TableStore for PagedTables {
         requires { (d : Database) × HoldsNow self.old d × CanChange d.schemas change.now }
         ensures made { (d : Database) → HoldsNow self.old d → CanChange d.schemas change.now
             → IfOk result (λ a. IsOk a → HoldsNow self.new (with_row d change.now)) }
-        ensures keeps { (k : Database) → HoldsKept self.old k → OnOk result (HoldsKept self.new k) }
+        ensures keeps { (k : Database) → HoldsKept self.old k → HoldsKept self.new k }
         ensures full { IfOk result (λ a. OnErr a ((root : ℕ) × IsFull (pages_of self.new) root)) }
     {
         let Some((schema, root)) = find_entry(alloc, &self.store, &change.table)? else {

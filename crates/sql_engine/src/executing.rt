@@ -12,8 +12,8 @@ use sql_exec::{Changes, Outcome, SqlReply, eval};
 use sql_statements::Stmt;
 use std::alloc::Global;
 
-/// Runs one statement that is no BEGIN, COMMIT or ROLLBACK, and gives what the session is to be told. After
-/// `SpaceFull` the store has only the database that it keeps, and after want of memory nothing is said of it.
+/// Runs one statement that is no BEGIN, COMMIT or ROLLBACK, and gives what the session is to be told. What the
+/// store keeps stays. After `SpaceFull` or want of memory nothing else is said of the store.
 pub fn execute<T: TableStore>(
     alloc: Global,
     store: &mut T,
@@ -24,7 +24,7 @@ pub fn execute<T: TableStore>(
     requires known { (d : Database) × T.tables store.old d }
     ensures executes { (d : Database) → T.tables store.old d
         → IfOk result (Executes d statement.now (T.tables store.new)) }
-    ensures keeps { (k : Database) → T.kept store.old k → OnOk result (T.kept store.new k) }
+    ensures keeps { (k : Database) → T.kept store.old k → T.kept store.new k }
 {
     match answered(alloc, store, statement)? {
         Outcome::Rows(rows) => Ok(SqlReply::Rows(rows)),
@@ -63,7 +63,7 @@ fn make<T: TableStore>(
     ensures executes { (d : Database) → T.tables store.old d
         → ComesFrom (AnswersOver d statement.now) (Outcome.Changes changes.now)
         → IfOk result (Executes d statement.now (T.tables store.new)) }
-    ensures keeps { (k : Database) → T.kept store.old k → OnOk result (T.kept store.new k) }
+    ensures keeps { (k : Database) → T.kept store.old k → T.kept store.new k }
 {
     store.rules();
     match statement {

@@ -23,7 +23,7 @@ pub fn make_table<T: TableStore>(
     requires absent { (d : Database) × T.tables store.old d × (table_named d.schemas schema.now.table ≡ None) }
     ensures made { (d : Database) → T.tables store.old d → table_named d.schemas schema.now.table ≡ None
         → IfOk result (λ a. IsOk a → T.tables store.new (with_table d schema.now)) }
-    ensures keeps { (k : Database) → T.kept store.old k → OnOk result (T.kept store.new k) }
+    ensures keeps { (k : Database) → T.kept store.old k → T.kept store.new k }
 {
     read_names(schema);
     store.create(alloc, schema)
@@ -39,7 +39,7 @@ pub fn make_changes<T: TableStore>(
     ensures made { (d : Database) → T.tables store.old d → AllByRecursion (Suits d.schemas) changes.now
         → IfOk result (λ a. IsOk a → T.tables store.new (fold with_row d changes.now)) }
     ensures full { IfOk result (λ a. IsErr a → changes.now ≢ []) }
-    ensures keeps { (k : Database) → T.kept store.old k → OnOk result (T.kept store.new k) }
+    ensures keeps { (k : Database) → T.kept store.old k → T.kept store.new k }
 {
     for change in changes.as_slice() {
         if let Err(full) = make_change(alloc, store, change)? {
@@ -57,7 +57,7 @@ fn make_change<T: TableStore>(
     requires { (d : Database) × T.tables store.old d × Suits d.schemas change.now }
     ensures made { (d : Database) → T.tables store.old d → Suits d.schemas change.now
         → IfOk result (λ a. IsOk a → T.tables store.new (with_row d change.now)) }
-    ensures keeps { (k : Database) → T.kept store.old k → OnOk result (T.kept store.new k) }
+    ensures keeps { (k : Database) → T.kept store.old k → T.kept store.new k }
 {
     if let Some(row) = &change.row {
         read_ints(row);

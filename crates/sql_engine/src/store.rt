@@ -20,8 +20,8 @@ pub struct SpaceFull;
 /// Tables that statements read and change.
 ///
 /// `tables` says which database the store has, with the changes that it may yet give up, and `kept` which
-/// one it has without them. After `SpaceFull` nothing is said of `tables`, and after want of memory of a
-/// change nothing at all.
+/// one it has without them, which no change takes away. After `SpaceFull` or want of memory of a change
+/// nothing is said of `tables`.
 pub trait TableStore {
     ghost tables: { Self → Database → Type 0 };
 
@@ -48,7 +48,7 @@ pub trait TableStore {
         requires { (d : Database) × tables self.old d × CanCreate d.schemas schema.now }
         ensures made { (d : Database) → tables self.old d → CanCreate d.schemas schema.now
             → IfOk result (λ a. IsOk a → tables self.new (with_table d schema.now)) }
-        ensures keeps { (k : Database) → kept self.old k → OnOk result (kept self.new k) };
+        ensures keeps { (k : Database) → kept self.old k → kept self.new k };
 
     /// Makes the row stand under its key, or lets none stand there.
     fn change(
@@ -59,7 +59,7 @@ pub trait TableStore {
         requires { (d : Database) × tables self.old d × CanChange d.schemas change.now }
         ensures made { (d : Database) → tables self.old d → CanChange d.schemas change.now
             → IfOk result (λ a. IsOk a → tables self.new (with_row d change.now)) }
-        ensures keeps { (k : Database) → kept self.old k → OnOk result (kept self.new k) };
+        ensures keeps { (k : Database) → kept self.old k → kept self.new k };
 
     /// What holds of each database that the store has. It does nothing when it is run.
     fn rules(&self)

@@ -19,7 +19,8 @@ use tree_change::{plan_put, plan_room, plan_take, plan_with_root};
 fn run_plan(alloc: Global, store: &mut PageStore, plan: Plan) -> Result<(), WantOfMemory>
     requires group { MakeGroup plan.records }
     requires apply { (lsn page : ℕ) → RecordsApply lsn plan.records (pages_of store.old page) }
-    ensures { OnOk result (store.new ≡ with_group store.old plan.records) }
+    ensures ok { OnOk result (store.new ≡ with_group store.old plan.records) }
+    ensures err { OnErr result (store.new ≡ store.old) }
 {
     store.run(alloc, plan.records)
 }
@@ -40,7 +41,7 @@ fn split_or_way(
     ensures more { IfOk result (λ answer. IfOk answer (λ found. IsNone found → count_of (pages_of store.old 0) < count_of (pages_of store.new 0))) }
     ensures no { IfOk result (λ answer. IfErr answer (λ no. no ≡ TreeNo.SpaceFull)) }
     ensures full { IfOk result (λ answer. OnErr answer (IsFull (pages_of store.new) root)) }
-    ensures kept { OnOk result (store.new.kept ≡ store.old.kept) }
+    ensures kept { store.new.kept ≡ store.old.kept }
 {
     let path = way(alloc, store, root, item.key.as_slice())?;
     match plan_room(alloc, &path, meta_page(store), item)? {
@@ -69,7 +70,7 @@ pub fn make_room(
     ensures room { IfOk result (λ answer. IfOk answer (HasRoom (pages_of store.new) root item.now)) }
     ensures no { IfOk result (λ answer. IfErr answer (λ no. no ≡ TreeNo.SpaceFull)) }
     ensures full { IfOk result (λ answer. OnErr answer (IsFull (pages_of store.new) root)) }
-    ensures kept { OnOk result (store.new.kept ≡ store.old.kept) }
+    ensures kept { store.new.kept ≡ store.old.kept }
 {
     loop {
         match split_or_way(alloc, store, root, item)? {
@@ -93,7 +94,7 @@ fn put_on(
     requires room { HasRoom (pages_of store.old) root item.now path.now }
     ensures ok { (roots : List ℕ) (items : ℕ → List (List ℕ)) → Forest (pages_of store.old) roots items → Contains roots root
         → OnOk result (Forest (pages_of store.new) roots (with_tree items root (with_item item.now.key (leaf_bytes item.now) (items root)))) }
-    ensures kept { OnOk result (store.new.kept ≡ store.old.kept) }
+    ensures kept { store.new.kept ≡ store.old.kept }
 {
     let plan = plan_put(alloc, path, meta_page(store), item)?;
     run_plan(alloc, store, plan)
@@ -114,7 +115,7 @@ pub fn put(
         → IfOk result (λ answer. OnErr answer (Forest (pages_of store.new) roots items)) }
     ensures no { IfOk result (λ answer. IfErr answer (λ no. no ≡ TreeNo.SpaceFull)) }
     ensures full { IfOk result (λ answer. OnErr answer (IsFull (pages_of store.new) root)) }
-    ensures kept { OnOk result (store.new.kept ≡ store.old.kept) }
+    ensures kept { store.new.kept ≡ store.old.kept }
 {
     match make_room(alloc, store, root, item)? {
         Ok(path) => {
@@ -154,7 +155,7 @@ fn take_from(
     requires room { HasRoom (pages_of store.old) root item.now path.now }
     ensures ok { (roots : List ℕ) (items : ℕ → List (List ℕ)) → Forest (pages_of store.old) roots items → Contains roots root
         → OnOk result (Forest (pages_of store.new) roots (with_tree items root (without_item item.now.key (items root)))) }
-    ensures kept { OnOk result (store.new.kept ≡ store.old.kept) }
+    ensures kept { store.new.kept ≡ store.old.kept }
 {
     match plan_take(alloc, path, meta_page(store), item)? {
         Some(plan) => run_plan(alloc, store, plan),
@@ -178,7 +179,7 @@ pub fn take_out(
         → IfOk result (λ answer. OnErr answer (Forest (pages_of store.new) roots items)) }
     ensures no { IfOk result (λ answer. IfErr answer (λ no. no ≡ TreeNo.SpaceFull)) }
     ensures full { IfOk result (λ answer. OnErr answer (IsFull (pages_of store.new) root)) }
-    ensures kept { OnOk result (store.new.kept ≡ store.old.kept) }
+    ensures kept { store.new.kept ≡ store.old.kept }
 {
     let item = item_of(alloc, key)?;
     match make_room(alloc, store, root, &item)? {
@@ -206,7 +207,7 @@ pub fn put_with_tree(
     ensures ok { (roots : List ℕ) (items : ℕ → List (List ℕ)) → Forest (pages_of store.old) roots items → Contains roots root
         → let new = count_of (pages_of store.old 0) in
         OnOk result (Forest (pages_of store.new) (roots ++ new ∷ []) (with_tree (with_tree items root (with_item item.now.key (leaf_bytes item.now) (items root))) new [])) }
-    ensures kept { OnOk result (store.new.kept ≡ store.old.kept) }
+    ensures kept { store.new.kept ≡ store.old.kept }
 {
     let plan = plan_with_root(alloc, path, meta_page(store), item)?;
     run_plan(alloc, store, plan)

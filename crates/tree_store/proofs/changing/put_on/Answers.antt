@@ -19,6 +19,6 @@ run_plan-requires-clause-apply c =
 
 pub returns-clause-ok : goal.returns-clause-ok
 returns-clause-ok c roots items f k =
-    on_ok _ _ c.run_plan.result c.run_plan.ensures
+    on_ok _ _ c.run_plan.result c.run_plan.ensures.ok
     (ran_carried c.args.store.now c.run_plan.new.store roots items f c.args.root k c.args.item.now.key c.args.path.now c.requires.room.way c.in_ok-plan.plan
     (with_item c.args.item.now.key (leaf_bytes c.args.item.now)) c.in_ok-plan.ensures.carries)

@@ -30,5 +30,5 @@ returns-clause-ok c roots items f k =
     let change = with_item key (leaf_bytes c.args.item.now) in
     let begins : Begins key path (pages_of c.args.store.now 0) c.in_ok-plan.plan change =
     subst (λ (m : Image). Begins key path m c.in_ok-plan.plan change) c.meta_page.ensures c.in_ok-plan.ensures.begins in
-    on_ok _ _ c.run_plan.result c.run_plan.ensures
+    on_ok _ _ c.run_plan.result c.run_plan.ensures.ok
     (ran_begun c.args.store.now c.run_plan.new.store roots items f c.args.root k key path c.requires.room.way c.in_ok-plan.plan change begins)

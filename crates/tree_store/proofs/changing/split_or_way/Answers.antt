@@ -53,7 +53,7 @@ returns-in-Some-Ok-clause-forest c roots items f k =
     let keeps : Keeps key path (ps 0) plan =
     subst (λ (m : Image). Keeps key path m plan) c.meta_page.ensures
     (planned c.in_ok-plan_room.field-0 c.in-Some-Ok.field-0 plan (λ p. Keeps key path c.meta_page.result.now p) c.in_ok-plan_room.ensures.keeps c.in-Some-Ok.is c.in-Some-Ok.field-0-is) in
-    ran_kept c.args.store.now c.run_plan.new.store roots items f c.args.root k key path v plan keeps c.in_ok-run_plan-in-Some-Ok.ensures
+    ran_kept c.args.store.now c.run_plan.new.store roots items f c.args.root k key path v plan keeps c.in_ok-run_plan-in-Some-Ok.ensures.ok
 
 pub returns-in-Some-Ok-clause-more : goal.returns-in-Some-Ok-clause-more
 returns-in-Some-Ok-clause-more c =
@@ -66,7 +66,7 @@ returns-in-Some-Ok-clause-more c =
     let keeps : Keeps key path (ps 0) plan =
     subst (λ (m : Image). Keeps key path m plan) c.meta_page.ensures
     (planned c.in_ok-plan_room.field-0 c.in-Some-Ok.field-0 plan (λ p. Keeps key path c.meta_page.result.now p) c.in_ok-plan_room.ensures.keeps c.in-Some-Ok.is c.in-Some-Ok.field-0-is) in
-    λ _. ran_more c.args.store.now c.run_plan.new.store f.0 f.1 f.2 c.args.root f.3 key path v plan keeps c.in_ok-run_plan-in-Some-Ok.ensures
+    λ _. ran_more c.args.store.now c.run_plan.new.store f.0 f.1 f.2 c.args.root f.3 key path v plan keeps c.in_ok-run_plan-in-Some-Ok.ensures.ok
 
 pub returns-clause-full : goal.returns-clause-full
 returns-clause-full c =

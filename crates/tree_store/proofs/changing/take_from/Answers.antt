@@ -29,7 +29,7 @@ returns-in-Some-clause-ok c roots items f k =
     let path = c.args.path.now in
     let carries : Carries key path c.in-Some.plan (without_item key) =
     subst (λ (o : Option Plan). IfSome o (λ plan. Carries key path plan (without_item key))) c.in-Some.is c.in_ok-plan.ensures.carries in
-    on_ok _ _ c.run_plan.result c.run_plan.ensures
+    on_ok _ _ c.run_plan.result c.run_plan.ensures.ok
     (ran_carried c.args.store.now c.run_plan.new.store roots items f c.args.root k key path c.requires.room.way c.in-Some.plan (without_item key) carries)
 
 pub returns-in-None-clause-ok : goal.returns-in-None-clause-ok
