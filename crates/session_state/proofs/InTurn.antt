@@ -107,7 +107,7 @@ in_turn_leads parses s m line es r new h =
     subst (λ l. Leads parses m l new) (sym h.all)
     (h.asked, h.submits, on parses h.work (entry.Reply s r ∷ []) h.asked h.made new h.leads (one parses (entry.Reply s r) h.made new h.replies))
 
-lines_lead : (parses : Parses) (s : ℕ) (lines : List (List ℕ)) (es : List Entry) (old new : Machine) → ServesInTurn parses s old lines es new → Leads parses old es new
+pub lines_lead : (parses : Parses) (s : ℕ) (lines : List (List ℕ)) (es : List Entry) (old new : Machine) → ServesInTurn parses s old lines es new → Leads parses old es new
 lines_lead parses s [] es old new v = subst (λ l. Leads parses old l new) (sym v.0) v.1
 lines_lead parses s (line ∷ lines) es old new v =
     subst (λ l. Leads parses old l new) (sym v.6)

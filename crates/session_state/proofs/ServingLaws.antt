@@ -10,7 +10,7 @@ use Rattle.session_state.specs.Moves.{joined}
 use Rattle.session_state.specs.Runs.{Serves}
 use Rattle.session_state.specs.Serving.{HaveRoom, IsAnswered, IsServing, ServesInTurn, TableState, Turns, at_rest, replies_in}
 use Rattle.session_state.specs.Steps.{Step}
-use Rattle.session_state.proofs.InTurn.{one_reply}
+use Rattle.session_state.proofs.InTurn.{lines_lead, one_reply}
 use Rattle.session_state.proofs.TurnLaws.{turns}
 
 -- the lines are answered in turn with these replies, and where each has room by every entry that may stand
@@ -68,4 +68,5 @@ lines parses nodes base first name ls rs new some t =
         told = all.told;
         serial = λ room. (ready.0, all.next, all.entries, ready.1, all.exact room, refl);
       },
+      (all.next, (ready.0, ready.1, lines_lead parses 0 ls all.entries ready.0 all.next all.in_turn), all.serves.tables),
     )

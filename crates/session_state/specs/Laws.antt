@@ -14,7 +14,7 @@ use Rattle.session_state.specs.declared.entries.Entry.TheVariants as entry
 use Rattle.session_state.specs.Conflicts.{is_conflict}
 use Rattle.session_state.specs.Machine.{Machine, Parses, Session, Transaction, commit_of, committed, is_lasting, last, pending_of, running, settled, start, wrote}
 use Rattle.session_state.specs.Moves.{is_giving_up}
-use Rattle.session_state.specs.Runs.{IsRun, Leads, Serves}
+use Rattle.session_state.specs.Runs.{IsRun, Leads, MakesDatabase, Serves}
 use Rattle.session_state.specs.Serving.{AreAnswered, IsAnswered, IsInTurn, IsServing, TableState, Turn, Turns, at_rest}
 use Rattle.session_state.specs.Statements.{is_commit, is_write}
 use Rattle.session_state.specs.Steps.{Step}
@@ -123,12 +123,12 @@ TurnsAreAnswered parses =
     (m : Machine) (old new : TableState) (line : List ℕ) (read : Result Stmt ℕ) (r : SqlReply)
     → IsServing m old → parses line read → Turn read old r new → IsAnswered parses m line r new
 
--- lines that make turns one after the other are answered in turn
+-- lines that make turns one after the other are answered in turn, and the commits make the tables that the turns keep
 abbrev pub LinesAreAnswered : Parses → Type 0
 LinesAreAnswered parses =
     (nodes : ℕ) (base : Database) (first : ℕ) (name : List ℕ) (lines : List (List ℕ)) (rs : List SqlReply) (new : TableState)
     → 0 < nodes → Turns parses (at_rest base) lines rs new
-    → (es : List Entry) × AreAnswered parses nodes base first name lines rs es
+    → (es : List Entry) × AreAnswered parses nodes base first name lines rs es × MakesDatabase parses nodes base first es new.kept
 
 -- lines that are answered in turn are a run
 abbrev pub InTurnIsARun : Parses → Type 0

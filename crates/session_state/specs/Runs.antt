@@ -5,7 +5,7 @@ use Rattle.sql_exec.specs.declared.replies.SqlReply.TheVariants as reply
 use Rattle.session_state.specs.declared.entries.Entry.{Entry}
 use Rattle.session_state.specs.declared.entries.Entry.TheVariants as entry
 use Rattle.sql_exec.specs.Applied.{Database}
-use Rattle.session_state.specs.Machine.{Machine, Parses, start}
+use Rattle.session_state.specs.Machine.{Machine, Parses, committed, start}
 use Rattle.session_state.specs.Steps.{Step}
 
 -- the entries lead from one state to another, each a step
@@ -16,6 +16,11 @@ Leads parses m (e ∷ es) new = (between : Machine) × Step parses m e between �
 -- the entries lead on from the start
 abbrev pub IsRun : Parses → ℕ → Database → ℕ → List Entry → Type 0
 IsRun parses nodes base first es = (new : Machine) × Leads parses (start nodes base first) es new
+
+-- the entries lead on from the start, and after all commits among them there is this database
+abbrev pub MakesDatabase : Parses → ℕ → Database → ℕ → List Entry → Database → Type 0
+MakesDatabase parses nodes base first es d =
+    (new : Machine) × Leads parses (start nodes base first) es new × (committed new new.count ≡ d)
 
 -- the entry stands exactly where it may
 abbrev pub IfMay : Parses → Machine → Entry → List Entry → Machine → Type 0
