@@ -1,3 +1,4 @@
+mod KeepingLaws
 mod KnownText
 mod ToldLaws
 mod TurnsLaws

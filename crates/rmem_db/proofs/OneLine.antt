@@ -19,8 +19,8 @@ Answered-blank t line At taken blank stands =
     record { replies = []; new = t; turns = subst (λ (q : List (List ℕ)). Turns Reads t q [] t) (sym (filled-blank line blank)) (refl, refl); stands = stands; written = Appends-nil taken }
 
 -- nothing was done
-pub StoppedIn-none : (t : TableState) (lines : List (List ℕ)) (taken : Option (List ℕ)) → StoppedIn t lines taken taken
-StoppedIn-none t lines taken =
+pub StoppedIn-none : (t : TableState) (lines : List (List ℕ)) (Kept : Database → Type 0) (taken : Option (List ℕ)) → Kept t.kept → StoppedIn t lines Kept taken taken
+StoppedIn-none t lines Kept taken stays =
     record {
       first = [];
       others = lines;
@@ -28,6 +28,7 @@ StoppedIn-none t lines taken =
       replies = [];
       new = t;
       turns = (refl, refl);
+      kept = stays;
       written = record { front = []; rest = []; parts = refl; grew = Appends-nil taken };
     }
 
@@ -39,7 +40,7 @@ module _ {W : Type 0} (Kept Shown : W → Database → Type 0) (t : TableState) 
   Answered-one w =
       record { replies = r ∷ []; new = h.takes.new; turns = turns; stands = h.takes.stands; written = subst (Appends now next) (sym (append-nil (reply_text [] r))) w }
 
-  pub StoppedIn-one : AppendsFront now next (reply_text [] r) → StoppedIn t (filled (line ∷ [])) now next
+  pub StoppedIn-one : AppendsFront now next (reply_text [] r) → StoppedIn t (filled (line ∷ [])) (Kept x.tables) now next
   StoppedIn-one w =
       record {
         first = filled (line ∷ []);
@@ -48,5 +49,6 @@ module _ {W : Type 0} (Kept Shown : W → Database → Type 0) (t : TableState) 
         replies = r ∷ [];
         new = h.takes.new;
         turns = turns;
+        kept = h.takes.stands.kept;
         written = subst (AppendsFront now next) (sym (append-nil (reply_text [] r))) w;
       }

@@ -12,7 +12,7 @@ use Rattle.rm_env.specs.declared.sink.SinkNo.{SinkNo}
 use Rattle.rm_env.specs.declared.sink.SinkNo.TheVariants as no
 use Rattle.reply_text.specs.Texts.{reply_text}
 use Rattle.sql_exec.specs.declared.replies.SqlReply.{SqlReply}
-use Rattle.sql_exec.specs.Applied.{empty}
+use Rattle.sql_exec.specs.Applied.{Database, empty}
 use Rattle.session_state.specs.Laws.{LinesAreAnswered, TurnsGoOn}
 use Rattle.session_state.specs.Serving.{TableState, Turns, at_rest}
 use Rattle.rmem_db.specs.declared.status.Status.{Status}
@@ -63,11 +63,11 @@ filled-ended whole rest each = ap filled (lines-ended whole rest each) ∙ fille
 
 -- ---- the status after a last writing
 
-Ends-after : {T : Type 0} (r : Result T SinkNo) (whole : Status) (left left' taken taken' : Option (List ℕ)) → OnOk r (Ends whole left left' taken taken')
-    → OnErr r (IsCutOff left left' taken taken') → Ends (status_after r whole) left left' taken taken'
-Ends-after (Ok x) whole left left' taken taken' ok err = ok
-Ends-after (Err no.Failed) whole left left' taken taken' ok err = err
-Ends-after (Err no.WantOfMemory) whole left left' taken taken' ok err = err
+Ends-after : {T : Type 0} (r : Result T SinkNo) (whole : Status) (left left' taken taken' : Option (List ℕ)) (Kept : Database → Type 0) → OnOk r (Ends whole left left' taken taken' Kept)
+    → OnErr r (IsCutOff left left' taken taken' Kept) → Ends (status_after r whole) left left' taken taken' Kept
+Ends-after (Ok x) whole left left' taken taken' Kept ok err = ok
+Ends-after (Err no.Failed) whole left left' taken taken' Kept ok err = err
+Ends-after (Err no.WantOfMemory) whole left left' taken taken' Kept ok err = err
 
 -- ---- one line more
 
@@ -99,9 +99,9 @@ module _ (more_turns : TurnsGoOn Reads) (answers : LinesAreAnswered Reads) (left
   written-more next ss w = subst (Appends taken next) (sym (texts-append s.replies ss)) (Appends-trans taken now next (replies_text s.replies) (replies_text ss) s.written w)
 
   -- the run stopped in lines that stand before others
-  stops : (left'' next : Option (List ℕ)) (input : List ℕ) → Consumes left left'' input → (here others : List (List ℕ)) → lines_for input ≡ filled s.answered ++ (here ++ others)
-      → StoppedIn s.state here now next → IsCutOff left left'' taken next
-  stops left'' next input read here others parts p =
+  stops : (left'' next : Option (List ℕ)) (Kept : Database → Type 0) (input : List ℕ) → Consumes left left'' input → (here others : List (List ℕ)) → lines_for input ≡ filled s.answered ++ (here ++ others)
+      → StoppedIn s.state here Kept now next → IsCutOff left left'' taken next Kept
+  stops left'' next Kept input read here others parts p =
       record {
         input = input;
         read = read;
@@ -113,10 +113,12 @@ module _ (more_turns : TurnsGoOn Reads) (answers : LinesAreAnswered Reads) (left
             ∙ (ap (λ (q : List (List ℕ)). filled s.answered ++ q) (append_assoc p.first p.others others)
             ∙ sym (append_assoc (filled s.answered) p.first (p.others ++ others))));
         text = replies_text (s.replies ++ p.replies);
+        made = p.new.kept;
         says = says answers (filled s.answered ++ p.first) (s.replies ++ p.replies) p.new (all_turns p.first p.replies p.new p.turns);
         ending = [];
         ends = inl refl;
         written = alone taken next _ (subst (AppendsFront taken next) (sym (texts-append s.replies p.replies)) (AppendsFront-behind taken now next (replies_text s.replies) (replies_text p.replies) s.written p.written));
+        kept = p.kept;
       }
 
   -- the front of the held bytes is a line
@@ -162,12 +164,12 @@ module _ (more_turns : TurnsGoOn Reads) (answers : LinesAreAnswered Reads) (left
         }
 
     -- the answer to the line was cut off
-    pub IsCutOff-line : (line : List ℕ) → line ≡ take n held.bytes → (next : Option (List ℕ)) → ((t : TableState) → At t → StoppedIn t (filled (line ∷ [])) now next) → IsCutOff left left' taken next
-    IsCutOff-line line is next told =
+    pub IsCutOff-line : (line : List ℕ) → line ≡ take n held.bytes → (Kept : Database → Type 0) (next : Option (List ℕ)) → ((t : TableState) → At t → StoppedIn t (filled (line ∷ [])) Kept now next) → IsCutOff left left' taken next Kept
+    IsCutOff-line line is Kept next told =
         let first : lines held.bytes ≡ (line ∷ []) ++ lines (drop (n + 1) held.bytes) =
         ap lines line_parts ∙ lines-at (take n held.bytes) (drop (n + 1) held.bytes) line_clear
         ∙ ap (λ (q : List ℕ). q ∷ lines (drop (n + 1) held.bytes)) (sym is) in
-        stops left' next s.input s.read (filled (line ∷ [])) (filled (lines (drop (n + 1) held.bytes)))
+        stops left' next Kept s.input s.read (filled (line ∷ [])) (filled (lines (drop (n + 1) held.bytes)))
         (begins ∙ ap (λ (q : List (List ℕ)). filled s.answered ++ q) (ap filled first ∙ filled-append (line ∷ []) (lines (drop (n + 1) held.bytes)))) (told s.state s.stands)
 
   whole_held : HasNoLf held.bytes → filled (whole_lines s.input) ≡ filled s.answered
@@ -196,20 +198,22 @@ module _ (more_turns : TurnsGoOn Reads) (answers : LinesAreAnswered Reads) (left
       }
 
   -- the source failed where no whole line is held
-  pub IsBroken-kept : (left'' : Option (List ℕ)) → HasNoLf held.bytes → Keeps left' left'' → IsBroken left left'' taken now
-  IsBroken-kept left'' none kept =
+  pub IsBroken-kept : (left'' : Option (List ℕ)) (Kept : Database → Type 0) → ((t : TableState) → At t → Kept t.kept) → HasNoLf held.bytes → Keeps left' left'' → IsBroken left left'' taken now Kept
+  IsBroken-kept left'' Kept has none kept =
       record {
         input = s.input;
         read = Consumes-kept left left' left'' s.input s.read kept;
         few = few_read;
         text = replies_text s.replies;
+        made = s.state.kept;
         says = says answers (filled (whole_lines s.input)) s.replies s.state (subst (λ (q : List (List ℕ)). Turns Reads (at_rest empty) q s.replies s.state) (sym (whole_held none)) s.turns);
         written = s.written;
+        kept = has s.state s.stands;
       }
 
   -- memory ran out after some bytes were read
-  pub IsCutOff-read : (left'' : Option (List ℕ)) → ReadsSome left' left'' (4194304 - held.taken) → IsCutOff left left'' taken now
-  IsCutOff-read left'' r =
+  pub IsCutOff-read : (left'' : Option (List ℕ)) (Kept : Database → Type 0) → ((t : TableState) → At t → Kept t.kept) → ReadsSome left' left'' (4194304 - held.taken) → IsCutOff left left'' taken now Kept
+  IsCutOff-read left'' Kept has r =
       let input : List ℕ = s.input ++ r.more in
       let few : length input ≤ 4194304 = (let c = s.count in let f = s.few in let m = r.few in omega (arith, length-append s.input r.more)) in
       let parts : input ≡ flat_map ended s.answered ++ (held.bytes ++ r.more) =
@@ -221,10 +225,12 @@ module _ (more_turns : TurnsGoOn Reads) (answers : LinesAreAnswered Reads) (left
         others = filled (lines (held.bytes ++ r.more));
         parts = lines-few input few ∙ ap (λ (q : List ℕ). filled (lines q)) parts ∙ filled-ended s.answered (held.bytes ++ r.more) s.each;
         text = replies_text s.replies;
+        made = s.state.kept;
         says = says answers (filled s.answered) s.replies s.state s.turns;
         ending = [];
         ends = inl refl;
         written = AppendsFront-all taken now (replies_text s.replies) [] s.written;
+        kept = has s.state s.stands;
       }
 
   -- ---- the end
@@ -235,24 +241,26 @@ module _ (more_turns : TurnsGoOn Reads) (answers : LinesAreAnswered Reads) (left
       ∙ ap (λ (q : List (List ℕ)). filled s.answered ++ filled q) (lines-none held.bytes none)
 
   -- the last line was answered at the end
-  IsServed-last : (left'' next : Option (List ℕ)) (At' : TableState → Type 0) → HasNoLf held.bytes → Consumes left' left'' [] → IsAtEnd left''
-      → Answered s.state (filled (held.bytes ∷ [])) At' now next → IsServed left left'' taken next
-  IsServed-last left'' next At' none read at_end a =
+  IsServed-last : (left'' next : Option (List ℕ)) (At' : TableState → Type 0) (Kept : Database → Type 0) → ((t : TableState) → At' t → Kept t.kept) → HasNoLf held.bytes → Consumes left' left'' [] → IsAtEnd left''
+      → Answered s.state (filled (held.bytes ∷ [])) At' now next → IsServed left left'' taken next Kept
+  IsServed-last left'' next At' Kept has none read at_end a =
       record {
         input = s.input;
         read = subst (Consumes left left'') (append-nil s.input) (Consumes-trans left left' left'' s.input [] s.read read);
         at_end = at_end;
         few = few_read;
         text = replies_text (s.replies ++ a.replies);
+        made = a.new.kept;
         says = says answers (filled (lines s.input)) (s.replies ++ a.replies) a.new
             (subst (λ (q : List (List ℕ)). Turns Reads (at_rest empty) q (s.replies ++ a.replies) a.new) (sym (last_lines none)) (all_turns (filled (held.bytes ∷ [])) a.replies a.new a.turns));
         written = written-more next a.replies a.written;
+        kept = has a.new a.stands;
       }
 
-  IsCutOff-last : (left'' next : Option (List ℕ)) → HasNoLf held.bytes → Consumes left' left'' []
-      → StoppedIn s.state (filled (held.bytes ∷ [])) now next → IsCutOff left left'' taken next
-  IsCutOff-last left'' next none read p =
-      stops left'' next s.input (subst (Consumes left left'') (append-nil s.input) (Consumes-trans left left' left'' s.input [] s.read read)) (filled (held.bytes ∷ [])) []
+  IsCutOff-last : (left'' next : Option (List ℕ)) (Kept : Database → Type 0) → HasNoLf held.bytes → Consumes left' left'' []
+      → StoppedIn s.state (filled (held.bytes ∷ [])) Kept now next → IsCutOff left left'' taken next Kept
+  IsCutOff-last left'' next Kept none read p =
+      stops left'' next Kept s.input (subst (Consumes left left'') (append-nil s.input) (Consumes-trans left left' left'' s.input [] s.read read)) (filled (held.bytes ∷ [])) []
       (lines-few s.input few_read ∙ last_lines none ∙ ap (λ (q : List (List ℕ)). filled s.answered ++ q) (sym (append-nil (filled (held.bytes ∷ []))))) p
 
   -- ---- past the limit
@@ -260,9 +268,9 @@ module _ (more_turns : TurnsGoOn Reads) (answers : LinesAreAnswered Reads) (left
   full : held.taken ≡ 4194304 → length s.input ≡ 4194304
   full e = sym s.count ∙ e
 
-  IsTooLong-past : (left'' next : Option (List ℕ)) (held' : Held) → HasNoLf held.bytes → held.taken ≡ 4194304 → ReadsPast left' left'' held held'
-      → Appends now next (ended (codes "too long")) → IsTooLong left left'' taken next
-  IsTooLong-past left'' next held' none e r written =
+  IsTooLong-past : (left'' next : Option (List ℕ)) (Kept : Database → Type 0) → ((t : TableState) → At t → Kept t.kept) → (held' : Held) → HasNoLf held.bytes → held.taken ≡ 4194304 → ReadsPast left' left'' held held'
+      → Appends now next (ended (codes "too long")) → IsTooLong left left'' taken next Kept
+  IsTooLong-past left'' next Kept has held' none e r written =
       let same : filled (whole_lines (take 4194304 (s.input ++ r.byte ∷ []))) ≡ filled s.answered =
       ap (λ (q : List ℕ). filled (whole_lines q)) (within-past s.input r.byte (full e)) ∙ whole_held none in
       record {
@@ -270,13 +278,15 @@ module _ (more_turns : TurnsGoOn Reads) (answers : LinesAreAnswered Reads) (left
         read = Consumes-trans left left' left'' s.input (r.byte ∷ []) s.read r.read;
         past = (let f = full e in omega (arith, length-append s.input (r.byte ∷ [])));
         text = replies_text s.replies;
+        made = s.state.kept;
         says = says answers (filled (whole_lines (take 4194304 (s.input ++ r.byte ∷ [])))) s.replies s.state (subst (λ (q : List (List ℕ)). Turns Reads (at_rest empty) q s.replies s.state) (sym same) s.turns);
         written = Appends-trans taken now next (replies_text s.replies) (ended (codes "too long")) s.written written;
+        kept = has s.state s.stands;
       }
 
-  IsCutOff-past : (left'' next : Option (List ℕ)) (held' : Held) → HasNoLf held.bytes → held.taken ≡ 4194304 → ReadsPast left' left'' held held'
-      → AppendsFront now next (ended (codes "too long")) → IsCutOff left left'' taken next
-  IsCutOff-past left'' next held' none e r written =
+  IsCutOff-past : (left'' next : Option (List ℕ)) (Kept : Database → Type 0) → ((t : TableState) → At t → Kept t.kept) → (held' : Held) → HasNoLf held.bytes → held.taken ≡ 4194304 → ReadsPast left' left'' held held'
+      → AppendsFront now next (ended (codes "too long")) → IsCutOff left left'' taken next Kept
+  IsCutOff-past left'' next Kept has held' none e r written =
       record {
         input = s.input ++ r.byte ∷ [];
         read = Consumes-trans left left' left'' s.input (r.byte ∷ []) s.read r.read;
@@ -284,39 +294,43 @@ module _ (more_turns : TurnsGoOn Reads) (answers : LinesAreAnswered Reads) (left
         others = [];
         parts = lines-past s.input r.byte (full e) ∙ whole_held none ∙ sym (append-nil (filled s.answered));
         text = replies_text s.replies;
+        made = s.state.kept;
         says = says answers (filled s.answered) s.replies s.state s.turns;
         ending = ended (codes "too long");
         ends = inr (refl, sym (ending-past s.input r.byte (full e)));
         written = AppendsFront-behind taken now next (replies_text s.replies) (ended (codes "too long")) s.written written;
+        kept = has s.state s.stands;
       }
 
   -- ---- the status
 
   -- what a last line at the end leads to
-  pub Ends-last : (left'' next : Option (List ℕ)) (held' : Held) (At' : TableState → Type 0) → HasNoLf held.bytes → ReadsEnd left' left'' held held' → (line : List ℕ) → line ≡ held'.bytes
+  pub Ends-last : (left'' next : Option (List ℕ)) (held' : Held) (At' : TableState → Type 0) (Kept : Database → Type 0) → ((t : TableState) → At' t → Kept t.kept)
+      → HasNoLf held.bytes → ReadsEnd left' left'' held held' → (line : List ℕ) → line ≡ held'.bytes
       → {T : Type 0} (r : Result T SinkNo) (status : Status) → status ≡ status_after r Done
       → ((t : TableState) → At t → OnOk r (Answered t (filled (line ∷ [])) At' now next))
-      → ((t : TableState) → At t → OnErr r (StoppedIn t (filled (line ∷ [])) now next))
-      → Ends status left left'' taken next
-  Ends-last left'' next held' At' none end line is r status told ok err =
+      → ((t : TableState) → At t → OnErr r (StoppedIn t (filled (line ∷ [])) Kept now next))
+      → Ends status left left'' taken next Kept
+  Ends-last left'' next held' At' Kept has none end line is r status told ok err =
       let same : line ≡ held.bytes = is ∙ ap (λ (h : Held). h.bytes) end.held in
-      let served : Answered s.state (filled (line ∷ [])) At' now next → IsServed left left'' taken next =
-      λ w. IsServed-last left'' next At' none end.read end.at_end (subst (λ (l : List ℕ). Answered s.state (filled (l ∷ [])) At' now next) same w) in
-      let cut : StoppedIn s.state (filled (line ∷ [])) now next → IsCutOff left left'' taken next =
-      λ w. IsCutOff-last left'' next none end.read (subst (λ (l : List ℕ). StoppedIn s.state (filled (l ∷ [])) now next) same w) in
-      subst (λ (st : Status). Ends st left left'' taken next) (sym told)
-      (Ends-after r Done left left'' taken next (on_ok_weaker r served (ok s.state s.stands)) (on_err_weaker r cut (err s.state s.stands)))
+      let served : Answered s.state (filled (line ∷ [])) At' now next → IsServed left left'' taken next Kept =
+      λ w. IsServed-last left'' next At' Kept has none end.read end.at_end (subst (λ (l : List ℕ). Answered s.state (filled (l ∷ [])) At' now next) same w) in
+      let cut : StoppedIn s.state (filled (line ∷ [])) Kept now next → IsCutOff left left'' taken next Kept =
+      λ w. IsCutOff-last left'' next Kept none end.read (subst (λ (l : List ℕ). StoppedIn s.state (filled (l ∷ [])) Kept now next) same w) in
+      subst (λ (st : Status). Ends st left left'' taken next Kept) (sym told)
+      (Ends-after r Done left left'' taken next Kept (on_ok_weaker r served (ok s.state s.stands)) (on_err_weaker r cut (err s.state s.stands)))
 
   -- what an input past the limit leads to
-  pub Ends-past : (left'' next : Option (List ℕ)) (held' : Held) → HasNoLf held.bytes → held.taken ≡ 4194304 → ReadsPast left' left'' held held'
+  pub Ends-past : (left'' next : Option (List ℕ)) (Kept : Database → Type 0) → ((t : TableState) → At t → Kept t.kept) → (held' : Held)
+      → HasNoLf held.bytes → held.taken ≡ 4194304 → ReadsPast left' left'' held held'
       → {T : Type 0} (r : Result T SinkNo) (status : Status) → status ≡ status_after r TooLong
       → OnOk r (Appends now next (ended (codes "too long"))) → OnErr r (AppendsFront now next (ended (codes "too long")))
-      → Ends status left left'' taken next
-  Ends-past left'' next held' none limit past_end r status told ok err =
-      let served : Appends now next (ended (codes "too long")) → IsTooLong left left'' taken next = λ w. IsTooLong-past left'' next held' none limit past_end w in
-      let cut : AppendsFront now next (ended (codes "too long")) → IsCutOff left left'' taken next = λ w. IsCutOff-past left'' next held' none limit past_end w in
-      subst (λ (st : Status). Ends st left left'' taken next) (sym told)
-      (Ends-after r TooLong left left'' taken next (on_ok_weaker r served ok) (on_err_weaker r cut err))
+      → Ends status left left'' taken next Kept
+  Ends-past left'' next Kept has held' none limit past_end r status told ok err =
+      let served : Appends now next (ended (codes "too long")) → IsTooLong left left'' taken next Kept = λ w. IsTooLong-past left'' next Kept has held' none limit past_end w in
+      let cut : AppendsFront now next (ended (codes "too long")) → IsCutOff left left'' taken next Kept = λ w. IsCutOff-past left'' next Kept has held' none limit past_end w in
+      subst (λ (st : Status). Ends st left left'' taken next Kept) (sym told)
+      (Ends-after r TooLong left left'' taken next Kept (on_ok_weaker r served ok) (on_err_weaker r cut err))
 
 -- ---- the start
 
@@ -339,8 +353,8 @@ Serves-start left taken At held stands start =
     }
 
 -- nothing was read or written
-pub IsCutOff-start : LinesAreAnswered Reads → (left taken : Option (List ℕ)) → IsCutOff left left taken taken
-IsCutOff-start answers left taken =
+pub IsCutOff-start : LinesAreAnswered Reads → (left taken : Option (List ℕ)) (Kept : Database → Type 0) → Kept empty → IsCutOff left left taken taken Kept
+IsCutOff-start answers left taken Kept has =
     record {
       input = [];
       read = Consumes-nil left;
@@ -348,8 +362,10 @@ IsCutOff-start answers left taken =
       others = lines_for [];
       parts = refl;
       text = [];
+      made = empty;
       says = says answers [] [] (at_rest empty) (refl, refl);
       ending = [];
       ends = inl refl;
       written = record { front = []; rest = []; parts = refl; grew = Appends-nil taken };
+      kept = has;
     }

@@ -25,13 +25,12 @@ use Rattle.sql_meaning.specs.Terms.{term}
 use Rattle.sql_exec.specs.declared.changes.Change.{Change}
 use Rattle.sql_exec.specs.declared.replies.SqlReply.{SqlReply}
 use Rattle.sql_exec.specs.declared.replies.SqlReply.TheVariants as reply
-use Rattle.sql_exec.specs.declared.rows.RangeRows.{RangeRows}
-use Rattle.sql_exec.specs.Answer.{Answer, Answers, Does, Gives, GivesKept, of_rows, on_target, inserted, inserts, updates, deletes, placed_rows, removed_rows, reply_of, row_or_overflow, rows_or_overflow, source, target, wanted}
+use Rattle.sql_exec.specs.Answer.{Answer, Does, Gives, GivesKept, of_rows, on_target, inserted, inserts, updates, deletes, placed_rows, removed_rows, reply_of, row_or_overflow, rows_or_overflow, source, target, wanted}
 use Rattle.sql_exec.specs.Database.{whole}
 use Rattle.sql_exec.specs.Changes.{creation, first_repeat, keys_of, placing, removal}
 use Rattle.sql_exec.specs.Kept.{each, kept, set_all, values_in}
 use Rattle.sql_exec.specs.Totals.{is_null}
-use Rattle.sql_exec.specs.Applied.{AnswersOver, Database, reply_to}
+use Rattle.sql_exec.specs.Applied.{Database, reply_to}
 use Rattle.session_state.specs.Machine.{Parses}
 use Rattle.session_state.specs.Serving.{Evaluates, TableState, Turn, Turns, seen}
 use Rattle.rmem_db.specs.Session.{IsOfOneSession}

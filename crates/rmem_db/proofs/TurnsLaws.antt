@@ -65,7 +65,7 @@ text_in_turn parses nodes base first name lines es h =
     plain_texts es (subst (AllByRecursion IsPlain) (sym h.5) (tt, plain_lines parses 0 lines h.2 h.0 h.1 h.4))
 
 -- lines that took their turns over empty tables have the text of their replies
-pub says : LinesAreAnswered Reads → (lines : List (List ℕ)) (rs : List SqlReply) (t : TableState) → Turns Reads (at_rest empty) lines rs t → IsTextFor lines (replies_text rs)
+pub says : LinesAreAnswered Reads → (lines : List (List ℕ)) (rs : List SqlReply) (t : TableState) → Turns Reads (at_rest empty) lines rs t → IsTextFor lines (replies_text rs) t.kept
 says answer lines rs t turns =
     let a = answer 1 empty 0 (codes "a") lines rs t (omega arith) turns in
     record {
@@ -73,6 +73,7 @@ says answer lines rs t turns =
       entries = a.0;
       answered = a.1;
       told = turns_told Reads (at_rest empty) lines rs t turns;
+      makes = a.2;
       written = ap replies_text (sym a.1.told) ∙ sym (text_in_turn Reads 1 empty 0 (codes "a") lines a.0 a.1.in_turn);
     }
 

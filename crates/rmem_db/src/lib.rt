@@ -13,6 +13,5 @@ mod tables;
 mod tests;
 mod writing;
 
-pub use running::{run, run_over};
+pub use running::run;
 pub use status::Status;
-pub use tables::Working;

@@ -1,7 +1,8 @@
-ghost use Rattle.std.specs.Prelude.{ℕ, List, [], ◌∷◌, ◌≡◌, ◌↔◌, ◌≤◌, IsTrue, ◌<◌, OnOk, OnErr, IfErr, Option, IsErrOf};
-ghost use Rattle.sql_exec.specs.Applied.{Database, empty};
+ghost use Rattle.std.specs.Prelude.{ℕ, List, [], ◌∷◌, ◌≡◌, ◌≢◌, ◌↔◌, ◌≤◌, IsTrue, ◌<◌, OnOk, OnErr, IfErr, Option, IsErrOf, IsSome, IsNone};
+ghost use Rattle.sql_exec.specs.Applied.{empty};
 ghost use Rattle.rm_env.specs.Faults.{Rose};
-ghost use Rattle.session_state.specs.Serving.{TableState};
+ghost use Rattle.session_state.specs.Serving.{TableState, at_rest};
+ghost use Rattle.rmem_db.specs.Keeping.{HasKept};
 ghost use Rattle.rmem_db.specs.Lines.{is_blank, filled};
 ghost use Rattle.rmem_db.specs.Reading.{HasNoLf};
 ghost use Rattle.rmem_db.specs.Serving.{Answered, Serves, StoppedIn, Ends, HasCause, IsCutOff, status_after};
@@ -28,7 +29,7 @@ fn is_blank(line: &[u8]) -> bool
 }
 
 /// Answers one line, and writes the reply. A blank line is passed over. After an `Err` nothing is said of
-/// the session.
+/// the session but what its tables keep.
 fn answer<W: Working, K: Sink>(
     alloc: Global,
     session: &mut OneSession<W>,
@@ -39,7 +40,7 @@ fn answer<W: Working, K: Sink>(
     ensures ok { (t : TableState) → Stands W.kept W.tables session.old t
         → OnOk result (Answered t (filled (line.now ∷ [])) (Stands W.kept W.tables session.new) (K.taken sink.old) (K.taken sink.new)) }
     ensures err { (t : TableState) → Stands W.kept W.tables session.old t
-        → OnErr result (StoppedIn t (filled (line.now ∷ [])) (K.taken sink.old) (K.taken sink.new)) }
+        → OnErr result (StoppedIn t (filled (line.now ∷ [])) (W.kept session.new.tables) (K.taken sink.old) (K.taken sink.new)) }
     ensures count { K.faults sink.old ≤ K.faults sink.new }
     ensures failed { IsErrOf result SinkNo.Failed → Rose (K.faults sink.old) (K.faults sink.new) }
 {
@@ -66,7 +67,7 @@ fn answer_held<W: Working, K: Sink>(
         → OnOk result (Serves left left' taken (K.taken sink.new) (Stands W.kept W.tables session.new) input.new) }
     ensures cut { (left left' taken : Option (List ℕ))
         → Serves left left' taken (K.taken sink.old) (Stands W.kept W.tables session.old) input.old
-        → OnErr result (IsCutOff left left' taken (K.taken sink.new)) }
+        → OnErr result (IsCutOff left left' taken (K.taken sink.new) (W.kept session.new.tables)) }
     ensures count { K.faults sink.old ≤ K.faults sink.new }
     ensures failed { IsErrOf result SinkNo.Failed → Rose (K.faults sink.old) (K.faults sink.new) }
 {
@@ -106,7 +107,7 @@ fn turn<W: Working, S: Source, K: Sink>(
         → OnOk result (Serves left (S.left source.new) taken (K.taken sink.new) (Stands W.kept W.tables session.new) input.new) }
     ensures ends { (left taken : Option (List ℕ))
         → Serves left (S.left source.old) taken (K.taken sink.old) (Stands W.kept W.tables session.old) input.old
-        → IfErr result (λ status. Ends status left (S.left source.new) taken (K.taken sink.new)) }
+        → IfErr result (λ status. Ends status left (S.left source.new) taken (K.taken sink.new) (W.kept session.new.tables)) }
     ensures cause { IfErr result (λ status. HasCause status
         (S.faults source.old) (S.faults source.new) (K.faults sink.old) (K.faults sink.new)) }
     ensures source_count { S.faults source.old ≤ S.faults source.new }
@@ -128,18 +129,17 @@ fn turn<W: Working, S: Source, K: Sink>(
     }
 }
 
-/// Answers the source's lines in their order over empty tables, each before more is read. It takes at most
-/// 4,194,305 bytes, and at most 65,536 with one read.
-pub(crate) fn serve_over<W: Working + Drop, S: Source, K: Sink>(
+/// Answers the source's lines in their order, each before more is read. It takes at most 4,194,305 bytes,
+/// and at most 65,536 with one read.
+fn serve_over<W: Working, S: Source, K: Sink>(
     alloc: Global,
-    tables: W,
+    session: &mut OneSession<W>,
     source: &mut S,
     sink: &mut K,
 ) -> Status
-    requires kept { W.kept tables empty }
-    requires tables { W.tables tables empty }
-    ensures ends { Ends result
-        (S.left source.old) (S.left source.new) (K.taken sink.old) (K.taken sink.new) }
+    requires start { Stands W.kept W.tables session.old (at_rest empty) }
+    ensures ends { Ends result (S.left source.old) (S.left source.new)
+        (K.taken sink.old) (K.taken sink.new) (W.kept session.new.tables) }
     ensures cause { HasCause result
         (S.faults source.old) (S.faults source.new) (K.faults sink.old) (K.faults sink.new) }
 {
@@ -147,27 +147,38 @@ pub(crate) fn serve_over<W: Working + Drop, S: Source, K: Sink>(
     let Ok(mut input) = Input::new(alloc) else {
         return Status::WantOfMemory;
     };
-    let mut session = OneSession {
-        tables,
-        in_transaction: false,
-    };
     loop {
-        if let Err(status) = turn(alloc, &mut session, &mut input, source, sink) {
+        if let Err(status) = turn(alloc, session, &mut input, source, sink) {
             return status;
         }
     }
 }
 
-/// The same over tables on pages, which are empty at first.
-pub(crate) fn serve<S: Source, K: Sink>(alloc: Global, source: &mut S, sink: &mut K) -> Status
-    ensures ends { Ends result
-        (S.left source.old) (S.left source.new) (K.taken sink.old) (K.taken sink.new) }
+/// Answers the source's lines over tables on pages, which are empty at first, and leaves these in `kept`.
+pub(crate) fn serve<S: Source, K: Sink>(
+    alloc: Global,
+    source: &mut S,
+    sink: &mut K,
+    kept: &mut Option<PagedTables>,
+) -> Status
+    requires { IsNone kept.old }
+    ensures ends { Ends result (S.left source.old) (S.left source.new)
+        (K.taken sink.old) (K.taken sink.new) (HasKept kept.new) }
     ensures cause { HasCause result
         (S.faults source.old) (S.faults source.new) (K.faults sink.old) (K.faults sink.new) }
+    ensures kept { result ≢ Status.WantOfMemory → IsSome kept.new }
 {
     serving_laws::<Sql>();
     let Ok(tables) = PagedTables::new(alloc) else {
         return Status::WantOfMemory;
     };
-    serve_over(alloc, tables, source, sink)
+    let mut session = OneSession {
+        tables,
+        in_transaction: false,
+    };
+    let status = serve_over(alloc, &mut session, source, sink);
+    let mut tables = session.tables;
+    tables.give_back();
+    *kept = Some(tables);
+    status
 }

@@ -1,4 +1,4 @@
-ghost use Rattle.std.specs.Prelude.{◌≡◌, ◌↔◌, IsTrue, IfOk, Ok};
+ghost use Rattle.std.specs.Prelude.{◌≡◌, ◌↔◌, IsTrue, IfOk, OnErr, Ok};
 ghost use Rattle.sql_exec.specs.Answer.{IsEvaluated};
 ghost use Rattle.sql_engine.specs.Executed.{MakesTable};
 ghost use Rattle.session_state.specs.Serving.{Evaluates, GivesBack, Keeps, Opens, TableState, Turn};
@@ -70,8 +70,9 @@ impl<W: Working> OneSession<W> {
         requires some { (t : TableState) × Stands W.kept W.tables self.old t }
         requires kind { IsEvaluated statement.now }
         requires made { MakesTable statement.now }
-        ensures { (t : TableState) → Stands W.kept W.tables self.old t
+        ensures ok { (t : TableState) → Stands W.kept W.tables self.old t
             → IfOk result (Takes W.kept W.tables (Evaluates statement.now t) self.new) }
+        ensures err { (t : TableState) → Stands W.kept W.tables self.old t → OnErr result (W.kept self.new.tables t.kept) }
     {
         serving_laws::<Sql>();
         let reply = execute(alloc, &mut self.tables, statement)?;
@@ -91,8 +92,9 @@ impl<W: Working> OneSession<W> {
     fn obey(&mut self, alloc: Global, statement: &Stmt) -> Result<SqlReply, WantOfMemory>
         requires some { (t : TableState) × Stands W.kept W.tables self.old t }
         requires made { MakesTable statement.now }
-        ensures { (t : TableState) → Stands W.kept W.tables self.old t
+        ensures ok { (t : TableState) → Stands W.kept W.tables self.old t
             → IfOk result (Takes W.kept W.tables (Turn (Ok statement.now) t) self.new) }
+        ensures err { (t : TableState) → Stands W.kept W.tables self.old t → OnErr result (W.kept self.new.tables t.kept) }
     {
         match statement {
             Stmt::Begin => Ok(self.begin()),
@@ -102,11 +104,12 @@ impl<W: Working> OneSession<W> {
         }
     }
 
-    /// A line. After an `Err` nothing is said of the session.
+    /// A line. After an `Err` nothing is said of the session but what its tables keep.
     pub fn answer(&mut self, alloc: Global, line: &[u8]) -> Result<SqlReply, WantOfMemory>
         requires { (t : TableState) × Stands W.kept W.tables self.old t }
-        ensures { (t : TableState) → Stands W.kept W.tables self.old t
+        ensures ok { (t : TableState) → Stands W.kept W.tables self.old t
             → IfOk result (TakesTurn W.kept W.tables line.now t self.new) }
+        ensures err { (t : TableState) → Stands W.kept W.tables self.old t → OnErr result (W.kept self.new.tables t.kept) }
     {
         created_tables();
         match parse(alloc, line)? {

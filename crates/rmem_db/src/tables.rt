@@ -2,7 +2,7 @@ use paged_tables::PagedTables;
 use sql_engine::TableStore;
 
 /// A store of tables whose changes are kept or given back. `kept` says which database stands without them.
-pub trait Working: TableStore {
+pub(crate) trait Working: TableStore {
     ghost use Rattle.sql_exec.specs.Applied.{Database};
 
     /// Keeps the changes.

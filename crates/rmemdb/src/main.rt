@@ -28,8 +28,9 @@ fn words<R: Env + AllocGlobal>(rt: &R) -> Result<Vec<String>, WantOfMemory> {
 fn main(rt: HostRuntime) -> ExitCode {
     let mut source = StdSource::new(rt.stdin());
     let mut sink = StdSink::new(rt.stdout());
+    let mut kept = None;
     let status = match words(&rt) {
-        Ok(words) => run(rt.alloc(), &words, &mut source, &mut sink),
+        Ok(words) => run(rt.alloc(), &words, &mut source, &mut sink, &mut kept),
         Err(WantOfMemory) => Status::WantOfMemory,
     };
     ExitCode::from(status.code())

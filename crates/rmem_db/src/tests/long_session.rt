@@ -5,6 +5,7 @@ use crate::tests::plain::{
     Keys, Pair, Table, Texts, delete, insert, join, raise, select, select_greatest, total,
     turn_signs,
 };
+use crate::tests::serve;
 use rm_base::Items;
 use rm_env::{QuietSink, QuietSource};
 use std::alloc::{AllocError, Global};
@@ -181,12 +182,11 @@ fn two_thousand_statements_as_over_plain_lists(rt: HostRuntime) -> Result<(), Fa
         let draw = next_draw(&mut dice);
         session.go_on(alloc, &draw)?;
     }
-    let mut words = Vec::new(alloc);
-    words.push(String::from_str(alloc, "serve")?)?;
     let input = session.texts.script.as_bytes().to_vec(alloc)?;
     let mut source = QuietSource::new(Items::from_vec(input));
     let mut sink = QuietSink::new(alloc);
-    assert_eq!(rt; run(alloc, &words, &mut source, &mut sink), Status::Done);
+    let status = run(alloc, &serve(alloc)?, &mut source, &mut sink, &mut None);
+    assert_eq!(rt; status, Status::Done);
     assert_eq!(rt; sink.taken(), session.texts.want.as_bytes());
     Ok(())
 }

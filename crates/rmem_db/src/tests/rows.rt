@@ -1,6 +1,7 @@
 //! Whole sessions of the program: an input and all that it is answered.
 use crate::running::run;
 use crate::status::Status;
+use crate::tests::serve;
 use rm_base::Items;
 use rm_env::{MemSink, MemSource};
 use std::alloc::Global;
@@ -10,12 +11,10 @@ use std::test::Fail;
 /// How a run over the input ends, and what it wrote, where the read and the write with these numbers
 /// fail. None has the number 0.
 fn ran(alloc: Global, input: &[u8], read: u64, write: u64) -> Result<(Status, Vec<u8>), Fail> {
-    let mut words = Vec::new(alloc);
-    words.push(String::from_str(alloc, "serve")?)?;
     let bytes = Items::from_vec(input.to_vec(alloc)?);
     let mut source = MemSource::new(bytes, vec![in alloc; read]?);
     let mut sink = MemSink::new(alloc, vec![in alloc; write]?);
-    let status = run(alloc, &words, &mut source, &mut sink);
+    let status = run(alloc, &serve(alloc)?, &mut source, &mut sink, &mut None);
     Ok((status, sink.taken().to_vec(alloc)?))
 }
 

@@ -1,5 +1,6 @@
 use crate::running::run;
 use crate::status::Status;
+use crate::tests::serve;
 use rm_base::Items;
 use rm_env::{MemSink, MemSource, QuietSink, QuietSource};
 use std::alloc::Global;
@@ -10,19 +11,12 @@ const ROW: &str = "BEGIN\nBEGIN\nCOMMIT\nROLLBACK\nSELEC 1\nbegin;\nrollback\n";
 const ROW_OUTPUT: &str =
     "ok 0\nerror in transaction\nok 0\nerror no transaction\nerror syntax at 0\nok 0\nok 0\n";
 
-/// The words `serve` alone.
-fn serve(alloc: Global) -> Result<Vec<String>, Fail> {
-    let mut words = Vec::new(alloc);
-    words.push(String::from_str(alloc, "serve")?)?;
-    Ok(words)
-}
-
 /// The status and the output of a run over an input that comes in pieces.
 fn served(alloc: Global, input: &[u8], piece: usize) -> Result<(Status, Vec<u8>), Fail> {
     let bytes = Items::from_vec(input.to_vec(alloc)?);
     let mut source = QuietSource::new(bytes).in_pieces(piece.max(1));
     let mut sink = QuietSink::new(alloc);
-    let status = run(alloc, &serve(alloc)?, &mut source, &mut sink);
+    let status = run(alloc, &serve(alloc)?, &mut source, &mut sink, &mut None);
     Ok((status, sink.taken().to_vec(alloc)?))
 }
 
@@ -90,7 +84,7 @@ fn other_words_are_refused(rt: HostRuntime) -> Result<(), Fail> {
         let mut source = QuietSource::new(Items::from_vec(b"x\n".to_vec(alloc)?));
         let mut sink = QuietSink::new(alloc);
         assert_eq!(rt;
-            run(alloc, &words, &mut source, &mut sink),
+            run(alloc, &words, &mut source, &mut sink, &mut None),
             Status::BadWords
         );
         assert_eq!(rt; sink.taken(), b"bad words\n".as_slice());
@@ -103,7 +97,7 @@ fn broken(alloc: Global, read_fails: u64, write_fails: u64) -> Result<(Status, u
     let bytes = Items::from_vec(ROW.as_bytes().to_vec(alloc)?);
     let mut source = MemSource::new(bytes, vec![in alloc; read_fails]?).in_pieces(20);
     let mut sink = MemSink::new(alloc, vec![in alloc; write_fails]?);
-    let status = run(alloc, &serve(alloc)?, &mut source, &mut sink);
+    let status = run(alloc, &serve(alloc)?, &mut source, &mut sink, &mut None);
     let taken = sink.taken();
     Ok((
         status,
@@ -162,7 +156,7 @@ fn a_sink_may_take_a_byte_at_a_time(rt: HostRuntime) -> Result<(), Fail> {
     let bytes = Items::from_vec(ROW.as_bytes().to_vec(alloc)?);
     let mut source = QuietSource::new(bytes);
     let mut sink = MemSink::new(alloc, Vec::new(alloc)).in_pieces(1);
-    let status = run(alloc, &serve(alloc)?, &mut source, &mut sink);
+    let status = run(alloc, &serve(alloc)?, &mut source, &mut sink, &mut None);
     assert_eq!(rt; status, Status::Done);
     assert_eq!(rt; sink.taken(), ROW_OUTPUT.as_bytes());
     Ok(())

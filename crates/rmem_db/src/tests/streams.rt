@@ -2,6 +2,7 @@ ghost use Rattle.std.specs.Prelude.{None};
 
 use crate::running::run;
 use crate::status::Status;
+use crate::tests::serve;
 use rm_env::{Failed, Sink, SinkNo, Source};
 use std::cell::Cell;
 use std::rc::Rc;
@@ -66,9 +67,8 @@ fn a_line_is_answered_before_more_is_read(rt: HostRuntime) -> Result<(), Fail> {
     let mut sink = Counted {
         written: written.clone()?,
     };
-    let mut words = Vec::new(alloc);
-    words.push(String::from_str(alloc, "serve")?)?;
-    assert_eq!(rt; run(alloc, &words, &mut source, &mut sink), Status::Done);
+    let status = run(alloc, &serve(alloc)?, &mut source, &mut sink, &mut None);
+    assert_eq!(rt; status, Status::Done);
     assert_eq!(rt; late.get(), false);
     assert_eq!(rt; written.get(), 5);
     Ok(())

@@ -12,12 +12,12 @@ returns-then-is_blank-clause-ok g c = λ t h.
 
 pub returns-in_err-reply-clause-err : goal.returns-in_err-reply-clause-err
 returns-in_err-reply-clause-err g c = λ t h.
-    OnErr-any _ (StoppedIn-none t (filled (c.args.line.now ∷ [])) (g.K.Sink.taken c.args.sink.now))
+    OnErr-any _ (StoppedIn-none t (filled (c.args.line.now ∷ [])) (g.W.TableStore.kept c.answer.new.self.tables) (g.K.Sink.taken c.args.sink.now) (c.in_err-reply.ensures.err t h))
 
 pub returns-clause-ok : goal.returns-clause-ok
 returns-clause-ok g c = λ t h.
-    on_ok_weaker c.write_reply.result (Answered-one g.W.TableStore.kept g.W.TableStore.tables t c.args.line.now _ _ (c.in_ok-reply.ensures t h) (sym c.is_blank.ensures ∙ c.if-is_blank.false) _ _) c.write_reply.ensures.ok
+    on_ok_weaker c.write_reply.result (Answered-one g.W.TableStore.kept g.W.TableStore.tables t c.args.line.now _ _ (c.in_ok-reply.ensures.ok t h) (sym c.is_blank.ensures ∙ c.if-is_blank.false) _ _) c.write_reply.ensures.ok
 
 pub returns-clause-err : goal.returns-clause-err
 returns-clause-err g c = λ t h.
-    on_err_weaker c.write_reply.result (StoppedIn-one g.W.TableStore.kept g.W.TableStore.tables t c.args.line.now _ _ (c.in_ok-reply.ensures t h) (sym c.is_blank.ensures ∙ c.if-is_blank.false) _ _) c.write_reply.ensures.err
+    on_err_weaker c.write_reply.result (StoppedIn-one g.W.TableStore.kept g.W.TableStore.tables t c.args.line.now _ _ (c.in_ok-reply.ensures.ok t h) (sym c.is_blank.ensures ∙ c.if-is_blank.false) _ _) c.write_reply.ensures.err

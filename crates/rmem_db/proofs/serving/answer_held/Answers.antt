@@ -30,4 +30,4 @@ returns-in_err-answer-clause-cut g c = λ left left' taken before.
     let line : List ℕ = c.front.result.now in
     let is : line ≡ take n held.bytes = c.front.ensures ∙ ap (λ (h : Held). take n h.bytes) c.line_end.ensures.same in
     OnErr-any _ (IsCutOff-line c.serving_laws.ensures.more_turns c.serving_laws.ensures.lines left left' taken _ (Stands g.W.TableStore.kept g.W.TableStore.tables c.loop-n.session) held (c.loop-n.invariant.serves left left' taken before) n c.in-Some.ensures.found line is
-    _ c.in_err-answer.ensures.err)
+    (g.W.TableStore.kept c.answer.new.session.tables) _ c.in_err-answer.ensures.err)

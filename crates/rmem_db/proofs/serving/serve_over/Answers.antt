@@ -1,4 +1,4 @@
-use Rattle.std.proofs.Common.{refl, arith}
+use Rattle.std.proofs.Common.{arith}
 use Rattle.sql_exec.specs.Applied.{empty}
 use Rattle.session_state.specs.Serving.{at_rest}
 use Rattle.rmem_db.specs.Session.{Stands}
@@ -7,11 +7,11 @@ use Rattle.rmem_db.proofs.serving.serve_over.Goals as goal
 
 pub loop-status-init : goal.loop-status-init
 loop-status-init g c = record {
-  stands = (at_rest empty, record { kept = c.requires.kept; shown = c.requires.tables; flag = refl });
-  serves = Serves-start _ _ (Stands g.W.TableStore.kept g.W.TableStore.tables _) c.in-Ok.input (record { kept = c.requires.kept; shown = c.requires.tables; flag = refl }) c.in-Ok.ensures;
+  stands = (at_rest empty, c.requires.start);
+  serves = Serves-start _ _ (Stands g.W.TableStore.kept g.W.TableStore.tables _) c.in-Ok.input c.requires.start c.in-Ok.ensures;
   source_count = omega arith;
   sink_count = omega arith;
 }
 
 pub returns-in_default-clause-ends : goal.returns-in_default-clause-ends
-returns-in_default-clause-ends g c = IsCutOff-start c.serving_laws.ensures.lines _ _
+returns-in_default-clause-ends g c = IsCutOff-start c.serving_laws.ensures.lines _ _ (g.W.TableStore.kept c.args.session.now.tables) c.requires.start.kept
