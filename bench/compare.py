@@ -4,9 +4,10 @@
     bench/compare.py [PROGRAM]
 
 PROGRAM is the built program, or crates/rmemdb/out/rmemdb. Each kind is measured over a table of as many rows as it
-has statements: the time of a run with the table and the statements, less that of a run with the table alone, the
-median of several such pairs. Prints for each the statements a second of both, the ratio of the times, the time of
-one statement, and how it grew since the smallest size. Nothing else should run meanwhile.
+has statements. The statements of a small table are run many times over, the INSERTs into as many tables, so that
+each run is long enough to time. The time is that of a run with the tables and the statements, less that of a run with
+the tables alone, the median of several such pairs. Prints for each the statements a second of both, the ratio of the
+times, the time of one statement, and how it grew since the smallest size. Nothing else should run meanwhile.
 """
 import os
 import shutil
@@ -16,8 +17,9 @@ import sys
 import tempfile
 import time
 
-SIZES = (1_000, 20_000)
-ROUNDS = {1_000: 41, 20_000: 5}
+# The rows of a table, and how often its statements are run over.
+SIZES = ((1_000, 20), (20_000, 1))
+ROUNDS = 7
 
 
 def numbers(count, below, seed):
@@ -28,29 +30,35 @@ def numbers(count, below, seed):
         yield (state >> 8) % below
 
 
-def table(size):
-    """A table of so many rows, with keys in no order, and one to join it with."""
+def shuffled(size):
+    """So many keys, in no order."""
     keys = list(range(size))
     for i, j in enumerate(numbers(size, size, 7)):
         keys[i], keys[j] = keys[j], keys[i]
-    return ["CREATE TABLE t (k INT PRIMARY KEY, v INT, w TEXT);", "CREATE TABLE u (k INT PRIMARY KEY, t INT);"], keys
+    return keys
 
 
-def insert(key):
-    return f"INSERT INTO t VALUES ({key}, {key * 3}, 'row {key}');"
+def create(name):
+    return f"CREATE TABLE {name} (k INT PRIMARY KEY, v INT, w TEXT);"
 
 
-def kinds(size):
+def insert(name, key):
+    return f"INSERT INTO {name} VALUES ({key}, {key * 3}, 'row {key}');"
+
+
+def kinds(size, times):
     """Each kind of statement: its name, what comes before it, and the statements."""
-    create, keys = table(size)
-    rows = create + ["BEGIN;"] + [insert(k) for k in keys] + ["COMMIT;"]
+    keys = shuffled(size)
+    many = [f"t{i}" for i in range(times)]
+    yield "insert", [create(name) for name in many], [insert(name, k) for name in many for k in keys]
+    rows = [create("t"), "BEGIN;"] + [insert("t", k) for k in keys] + ["COMMIT;"]
     some = list(numbers(size, size, 11))
-    both = rows + ["BEGIN;"] + [f"INSERT INTO u VALUES ({i}, {k});" for i, k in enumerate(some)] + ["COMMIT;"]
-    yield "insert", create, [insert(k) for k in keys]
-    yield "select by key", rows, [f"SELECT v, w FROM t WHERE k = {k};" for k in some]
-    yield "update by key", rows, [f"UPDATE t SET v = v + 1 WHERE k = {k};" for k in some]
-    yield "select 100 rows", rows, [f"SELECT v FROM t WHERE k >= {k} AND k < {k + 100};" for k in some]
-    yield "join on a key", both, [f"SELECT u.k, v FROM u JOIN t ON t.k = u.t WHERE u.k = {k};" for k in some]
+    join = ["CREATE TABLE u (k INT PRIMARY KEY, t INT);", "BEGIN;"]
+    join += [f"INSERT INTO u VALUES ({i}, {k});" for i, k in enumerate(some)] + ["COMMIT;"]
+    yield "select by key", rows, [f"SELECT v, w FROM t WHERE k = {k};" for k in some] * times
+    yield "update by key", rows, [f"UPDATE t SET v = v + 1 WHERE k = {k};" for k in some] * times
+    yield "select 100 rows", rows, [f"SELECT v FROM t WHERE k >= {k} AND k < {k + 100};" for k in some] * times
+    yield "join on a key", rows + join, [f"SELECT u.k, v FROM u JOIN t ON t.k = u.t WHERE u.k = {k};" for k in some] * times
 
 
 def spent(words, script):
@@ -61,14 +69,14 @@ def spent(words, script):
         return time.perf_counter() - start
 
 
-def measured(words, before, statements, folder, rounds):
+def measured(words, before, statements, folder):
     """The time of the statements alone: the median of the differences of two runs, one behind the other."""
     paths = []
     for name, lines in (("before", before), ("whole", before + statements)):
         paths.append(os.path.join(folder, name))
         with open(paths[-1], "w") as out:
             out.write("\n".join(lines) + "\n")
-    apart = [-spent(words, paths[0]) + spent(words, paths[1]) for _ in range(rounds)]
+    apart = [-spent(words, paths[0]) + spent(words, paths[1]) for _ in range(ROUNDS)]
     return max(statistics.median(apart), 1e-9)
 
 
@@ -79,17 +87,18 @@ def main():
     each = {}
     print(f"{'kind':<16} {'size':>6} {'rmemdb/s':>10} {'sqlite3/s':>10} {'ratio':>6} {'us each':>8} {'growth':>6}")
     with tempfile.TemporaryDirectory() as folder:
-        for size in SIZES:
-            for name, before, statements in kinds(size):
-                ours = measured([program, "serve"], before, statements, folder, ROUNDS[size])
-                line = f"{name:<16} {size:>6} {size / ours:>10.0f}"
+        for size, times in SIZES:
+            for name, before, statements in kinds(size, times):
+                count = len(statements)
+                ours = measured([program, "serve"], before, statements, folder)
+                line = f"{name:<16} {size:>6} {count / ours:>10.0f}"
                 if sqlite:
-                    theirs = measured([sqlite, ":memory:"], before, statements, folder, ROUNDS[size])
-                    line += f" {size / theirs:>10.0f} {ours / theirs:>6.2f}"
+                    theirs = measured([sqlite, ":memory:"], before, statements, folder)
+                    line += f" {count / theirs:>10.0f} {ours / theirs:>6.2f}"
                 else:
                     line += f" {'-':>10} {'-':>6}"
-                growth = ours / size / each.setdefault(name, ours / size)
-                print(f"{line} {ours / size * 1e6:>8.2f} {growth:>6.2f}", flush=True)
+                growth = ours / count / each.setdefault(name, ours / count)
+                print(f"{line} {ours / count * 1e6:>8.2f} {growth:>6.2f}", flush=True)
 
 
 if __name__ == "__main__":
