@@ -4,7 +4,7 @@ use Rattle.std.specs.List.{AllByRecursion}
 use Rattle.page_image.specs.Image.{Image}
 use Rattle.page_store.specs.declared.TheConstants.{ROOT_PAGE}
 use Rattle.page_store.specs.Stored.{Stored, pages_of, given_back}
-use Rattle.tree_store.specs.Forest.{Forest}
+use Rattle.tree_store.specs.Forest.{Forest, IsFull}
 use Rattle.sql_values.specs.declared.schemas.Schema.{Schema}
 use Rattle.sql_values.specs.declared.values.Value.{Value}
 use Rattle.row_codec.specs.Keys.{key_bytes}
@@ -51,3 +51,7 @@ HoldsNow s d = Holds (pages_of s) d
 
 abbrev pub HoldsKept : Stored → Database → Type 0
 HoldsKept s d = Holds (pages_of (given_back s)) d
+
+-- the pages held a database, and now the tree of that table is full
+abbrev pub IsFullTable : (ℕ → Image) → List ℕ → (ℕ → Image) → Type 0
+IsFullTable old t new = (d : Database) × (h : Holds old d) × (e : Entry) × (entry_named h.entries t ≡ Some e) × IsFull new e.root

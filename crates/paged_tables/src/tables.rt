@@ -6,7 +6,7 @@ ghost use Rattle.page_store.specs.Stored.{groups_of, pages_of, all_kept, given_b
 ghost use Rattle.tree_store.specs.Forest.{IsFull};
 ghost use Rattle.sql_exec.specs.Applied.{Database, empty, with_row, with_table};
 ghost use Rattle.sql_engine.specs.Sound.{CanChange, CanCreate};
-ghost use Rattle.paged_tables.specs.Content.{HoldsNow, HoldsKept};
+ghost use Rattle.paged_tables.specs.Content.{HoldsNow, HoldsKept, IsFullTable};
 
 use crate::catalog::{catalog_root, entry_item, find_entry};
 use crate::reading::items_in;
@@ -138,7 +138,7 @@ impl TableStore for PagedTables {
         ensures made { (d : Database) → HoldsNow self.old d → CanChange d.schemas change.now
             → IfOk result (λ a. IsOk a → HoldsNow self.new (with_row d change.now)) }
         ensures keeps { (k : Database) → HoldsKept self.old k → HoldsKept self.new k }
-        ensures full { IfOk result (λ a. OnErr a ((root : ℕ) × IsFull (pages_of self.new) root)) }
+        ensures full { IfOk result (λ a. OnErr a (IsFullTable (pages_of self.old) change.now.table (pages_of self.new))) }
     {
         let Some((schema, root)) = find_entry(alloc, &self.store, &change.table)? else {
             unreachable!()

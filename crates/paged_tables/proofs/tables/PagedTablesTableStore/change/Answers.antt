@@ -1,8 +1,10 @@
 use Rattle.std.proofs.Common.{ℕ, sym, subst, ◌∙◌}
-use Rattle.page_store.specs.Stored.{pages_of}
+use Rattle.page_image.specs.Image.{Image}
+use Rattle.page_store.specs.Stored.{Stored, pages_of}
 use Rattle.tree_store.specs.Forest.{IsFull}
 use Rattle.sql_values.specs.declared.schemas.Schema.{Schema}
 use Rattle.sql_engine.specs.Sound.{IsPlaced}
+use Rattle.paged_tables.specs.Content.{IsFullTable}
 use Rattle.paged_tables.proofs.TableLaws.{held, on_ok, on_err, err_gives, same_pair, found_entry, entry_root, change_made}
 use Rattle.paged_tables.proofs.tables.PagedTablesTableStore.change.Goals as goal
 
@@ -45,5 +47,13 @@ returns-clause-made c d old can ok =
 
 pub returns-clause-full : goal.returns-clause-full
 returns-clause-full c =
-    on_err c.done.result c.in_ok-answer.answer ((root : ℕ) × IsFull (pages_of c.change_tree.new.store) root) c.done.ensures.1
-    (err_gives c.in_ok-answer.answer (IsFull (pages_of c.change_tree.new.store) c.in-Some.root) _ (λ full. (c.in-Some.root, full)) c.in_ok-answer.ensures.full)
+    let d = c.requires.0 in
+    let h = held c.self.inside.store c.args.self.now d c.self.view_is c.requires.1 in
+    let can = c.requires.2 in
+    let table = c.args.change.now.table in
+    let new : ℕ → Image = pages_of c.change_tree.new.store in
+    let found = found_entry (pages_of c.self.inside.store) d h table can.schema c.in_ok-schema.field-0 can.named (c.in_ok-schema.ensures d h) in
+    let pair = same_pair c.in_ok-schema.field-0 c.in-Some.schema c.in-Some.root found.0 c.in-Some.is found.3 in
+    on_err c.done.result c.in_ok-answer.answer (IsFullTable (pages_of c.args.self.now) table new) c.done.ensures.1
+    (err_gives c.in_ok-answer.answer (IsFull new c.in-Some.root) _
+    (λ full. subst (λ (s : Stored). IsFullTable (pages_of s) table new) c.self.view_is (d, h, found.0, found.1, subst (IsFull new) pair.1 full)) c.in_ok-answer.ensures.full)
