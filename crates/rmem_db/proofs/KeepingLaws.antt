@@ -5,7 +5,7 @@ use Rattle.page_image.specs.Image.{unmade}
 use Rattle.redo_record.specs.declared.redo.Group.{Group}
 use Rattle.redo_record.specs.Effect.{after_groups}
 use Rattle.page_store.specs.Stored.{Stored, given_back}
-use Rattle.sql_exec.specs.Applied.{Database}
+use Rattle.sql_exec.specs.Applied.{Database, empty}
 use Rattle.paged_tables.specs.Content.{Holds, HoldsKept}
 use Rattle.rmem_db.specs.declared.status.Status.{Status}
 use Rattle.rmem_db.specs.declared.status.Status.TheVariants.{Done, BadWords, BadScript, ReadFault, WriteFault, TooLong, BadLog, WantOfMemory}
@@ -18,10 +18,10 @@ are_kept s t d is h = subst (λ (u : Stored). AreKept u d) (sym is) whole where
   whole : AreKept (given_back s) d
   whole = record { all = refl; log = subst (λ (gs : List Group). Holds (λ p. after_groups gs (unmade p)) d) (append-nil s.kept) h }
 
--- no tables are kept
-pub none_kept : (tables : Option Stored) (d : Database) → IsNone tables → HasKept tables d
-none_kept None d is = tt
-none_kept (Some t) d is = absurd cc
+-- no tables are left of a database without any
+pub none_kept : (tables : Option Stored) → IsNone tables → HasKept tables empty
+none_kept None is = refl
+none_kept (Some t) is = absurd cc
 
 module _ (P Q : Database → Type 0) (weaker : (d : Database) → P d → Q d) (left left' taken taken' : Option (List ℕ)) where
   served : IsServed left left' taken taken' P → IsServed left left' taken taken' Q

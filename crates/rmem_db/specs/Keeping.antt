@@ -1,10 +1,10 @@
 -- The tables that a run leaves, as the log of their changes.
-use Rattle.std.specs.Prelude.{◌≡◌, List, [], Option, IfSome}
+use Rattle.std.specs.Prelude.{◌≡◌, List, [], Option, Some, None}
 use Rattle.page_image.specs.Image.{unmade}
 use Rattle.redo_record.specs.declared.redo.Group.{Group}
 use Rattle.redo_record.specs.Effect.{after_groups}
 use Rattle.page_store.specs.Stored.{Stored}
-use Rattle.sql_exec.specs.Applied.{Database}
+use Rattle.sql_exec.specs.Applied.{Database, empty}
 use Rattle.paged_tables.specs.Content.{Holds}
 
 -- the pages that the groups of a log make, one group after the other from pages that are not made, hold the database
@@ -16,6 +16,7 @@ pub record AreKept (tables : Stored) (d : Database) : Type 0 where
   pub all : tables.own ≡ []
   pub log : IsLogOf tables.kept d
 
--- what there is of tables is kept
+-- the tables that are left are kept, and none are left only where the database has none
 abbrev pub HasKept : Option Stored → Database → Type 0
-HasKept tables d = IfSome tables (λ t. AreKept t d)
+HasKept None d = d ≡ empty
+HasKept (Some tables) d = AreKept tables d

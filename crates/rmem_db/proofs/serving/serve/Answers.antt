@@ -1,5 +1,4 @@
 use Rattle.std.proofs.Common.{Some}
-use Rattle.sql_exec.specs.Applied.{empty}
 use Rattle.paged_tables.specs.Content.{HoldsKept}
 use Rattle.rmem_db.specs.Keeping.{HasKept}
 use Rattle.rmem_db.proofs.KeepingLaws.{are_kept, none_kept, Ends-weaker}
@@ -7,7 +6,7 @@ use Rattle.rmem_db.proofs.ServingLaws.{IsCutOff-start}
 use Rattle.rmem_db.proofs.serving.serve.Goals as goal
 
 pub returns-in_default-clause-ends : goal.returns-in_default-clause-ends
-returns-in_default-clause-ends g c = IsCutOff-start c.serving_laws.ensures.lines _ _ (HasKept c.args.kept.now) (none_kept c.args.kept.now empty c.requires)
+returns-in_default-clause-ends g c = IsCutOff-start c.serving_laws.ensures.lines _ _ (HasKept c.args.kept.now) (none_kept c.args.kept.now c.requires)
 
 pub returns-clause-ends : goal.returns-clause-ends
 returns-clause-ends g c =
