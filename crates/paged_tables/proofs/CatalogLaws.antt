@@ -14,7 +14,7 @@ use Rattle.rm_base.proofs.FieldLaws.{length-field}
 use Rattle.page_image.specs.Image.{Image}
 use Rattle.page_store.specs.declared.TheConstants.{ROOT_PAGE}
 use Rattle.tree_store.specs.Forest.{Forest}
-use Rattle.sql_exec.specs.Applied.{Database}
+use Rattle.sql_database.specs.Database.{Database}
 use Rattle.sql_values.specs.declared.schemas.Column.{Column}
 use Rattle.sql_values.specs.declared.schemas.Schema.{Schema}
 use Rattle.sql_values.specs.declared.values.Value.{Value}

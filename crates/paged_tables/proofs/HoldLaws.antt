@@ -16,8 +16,9 @@ use Rattle.sql_values.specs.Order.{text_cmp}
 use Rattle.tree_change.specs.Effects.{with_item, without_item}
 use Rattle.tree_store.specs.Forest.{Forest, with_tree}
 use Rattle.sql_meaning.specs.Names.{table_named}
-use Rattle.sql_exec.specs.declared.changes.Change.{Change}
-use Rattle.sql_exec.specs.Applied.{Database, empty, key_place, row_key, placed, with_rows, with_row, with_table}
+use Rattle.sql_database.specs.declared.changes.Change.{Change}
+use Rattle.sql_database.specs.Database.{Database, empty, key_place, row_key}
+use Rattle.sql_database.specs.Applied.{placed, with_rows, with_row, with_table}
 use Rattle.sql_engine.specs.Sound.{IsRow, IsSound}
 use Rattle.paged_tables.specs.Items.{Entry, entry_item, entry_named, row_item, row_items}
 use Rattle.paged_tables.specs.Changes.{changed_items}

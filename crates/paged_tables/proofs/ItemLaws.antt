@@ -16,7 +16,7 @@ use Rattle.tree_change.specs.Effects.{with_item, without_item}
 use Rattle.row_codec.specs.Keys.{key_bytes}
 use Rattle.row_codec.specs.Records.{key_cell}
 use Rattle.sql_meaning.specs.Ranges.{is_past, is_before, in_range}
-use Rattle.sql_exec.specs.Applied.{placed}
+use Rattle.sql_database.specs.Applied.{placed}
 use Rattle.paged_tables.specs.Items.{live_item, row_item, row_items}
 
 -- ---- lists

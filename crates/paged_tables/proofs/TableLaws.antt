@@ -14,20 +14,21 @@ use Rattle.tree_change.specs.Effects.{with_item}
 use Rattle.tree_change.specs.Splits.{count_of}
 use Rattle.tree_change.specs.Room.{size_of, room_for}
 use Rattle.tree_change.specs.Places.{leaf_on}
-use Rattle.tree_store.specs.Forest.{Forest, with_tree, IsWayIn, HasRoom}
+use Rattle.tree_store.specs.Forest.{Forest, IsFull, with_tree, IsWayIn, HasRoom}
 use Rattle.tree_store.proofs.ForestLaws.{not_a_root}
 use Rattle.sql_values.specs.declared.schemas.Schema.{Schema}
 use Rattle.sql_values.specs.declared.values.Value.{Value}
 use Rattle.row_codec.specs.Records.{IsRecord, value_bytes}
 use Rattle.sql_meaning.specs.Names.{table_named}
 use Rattle.sql_meaning.specs.Ranges.{in_range}
-use Rattle.sql_exec.specs.declared.changes.Change.{Change}
-use Rattle.sql_exec.specs.Applied.{Database, with_row, with_table}
+use Rattle.sql_database.specs.declared.changes.Change.{Change}
+use Rattle.sql_database.specs.Database.{Database}
+use Rattle.sql_database.specs.Applied.{with_row, with_table}
 use Rattle.sql_engine.specs.Sound.{CanCreate, IsPlaced}
 use Rattle.paged_tables.specs.Items.{Entry, live_item, entry_named, row_items}
 use Rattle.paged_tables.specs.Catalog.{catalog_value}
 use Rattle.paged_tables.specs.Changes.{changed_items}
-use Rattle.paged_tables.specs.Content.{IsStored, Holds}
+use Rattle.paged_tables.specs.Content.{IsFullNow, IsStored, Holds}
 use Rattle.paged_tables.proofs.ItemLaws.{row_key_of, rows_in_range}
 use Rattle.paged_tables.proofs.EntryLaws.{filter_all}
 use Rattle.paged_tables.proofs.CatalogLaws.{length-catalog_value}
@@ -186,3 +187,7 @@ rows_read pages d h t e s root r items found schema_is root_is spelled =
           ∙ ap (filter (walk.in_range r.low r.high)) here.items_are
           ∙ rows_in_range e.schema.key r (d.tables t);
     }
+
+-- a full tree fills the store
+pub full_now : (s : Stored) (root : ℕ) → IsFull (pages_of s) root → IsFullNow s
+full_now s root full = (root, full)

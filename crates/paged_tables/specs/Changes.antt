@@ -2,7 +2,7 @@
 use Rattle.std.specs.Prelude.{ℕ, List}
 use Rattle.std.specs.Option.{option_map_or}
 use Rattle.tree_change.specs.Effects.{with_item, without_item}
-use Rattle.sql_exec.specs.declared.changes.Change.{Change}
+use Rattle.sql_database.specs.declared.changes.Change.{Change}
 use Rattle.paged_tables.specs.Items.{row_item}
 
 -- the item of the row joins them or takes the place of the one with its key, or the one with the key leaves

@@ -11,7 +11,7 @@ use Rattle.row_codec.specs.Keys.{key_bytes}
 use Rattle.row_codec.specs.Records.{IsRecord, key_cell, value_bytes}
 use Rattle.sql_catalog.specs.Catalog.{IsTable, AreBounded}
 use Rattle.sql_meaning.specs.Names.{table_named}
-use Rattle.sql_exec.specs.Applied.{Database}
+use Rattle.sql_database.specs.Database.{Database}
 use Rattle.paged_tables.specs.Items.{Entry, entry_items, entry_named, row_items}
 
 -- a row of the schema that an item can hold
@@ -51,6 +51,10 @@ HoldsNow s d = Holds (pages_of s) d
 
 abbrev pub HoldsKept : Stored → Database → Type 0
 HoldsKept s d = Holds (pages_of (given_back s)) d
+
+-- a tree of the store is full: at most one page is left, or its level is the highest
+abbrev pub IsFullNow : Stored → Type 0
+IsFullNow s = (root : ℕ) × IsFull (pages_of s) root
 
 -- the pages held a database, and now the tree of that table is full
 abbrev pub IsFullTable : (ℕ → Image) → List ℕ → (ℕ → Image) → Type 0

@@ -3,7 +3,7 @@ ghost use Rattle.page_view.specs.Leaf.{IsLeaf, leaf_bytes};
 ghost use Rattle.page_store.specs.Stored.{pages_of};
 ghost use Rattle.row_codec.specs.Records.{value_bytes};
 ghost use Rattle.sql_catalog.specs.Catalog.{IsTable, AreBounded, catalog_row};
-ghost use Rattle.sql_exec.specs.Applied.{Database};
+ghost use Rattle.sql_database.specs.Database.{Database};
 ghost use Rattle.paged_tables.specs.Items.{Entry, entry_item, entry_named, live_item};
 ghost use Rattle.paged_tables.specs.Catalog.{catalog_schema, catalog_value};
 ghost use Rattle.paged_tables.specs.Content.{IsEntry, Holds};

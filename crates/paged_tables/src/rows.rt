@@ -17,7 +17,7 @@ use page_view::LeafItem;
 use redo_record::TreeNo;
 use rm_base::{Bytes, Duplicate, PageId, WantOfMemory};
 use row_codec::{row_of, value_of};
-use sql_exec::Change;
+use sql_database::Change;
 use sql_values::{Row, Rows, Schema};
 use std::alloc::Global;
 use tree_store::{put, take_out};

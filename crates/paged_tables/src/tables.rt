@@ -4,9 +4,10 @@ ghost use Rattle.redo_record.specs.Effect.{CountsFrom};
 ghost use Rattle.page_store.specs.declared.TheConstants.{ROOT_PAGE};
 ghost use Rattle.page_store.specs.Stored.{groups_of, pages_of, all_kept, given_back};
 ghost use Rattle.tree_store.specs.Forest.{IsFull};
-ghost use Rattle.sql_exec.specs.Applied.{Database, empty, with_row, with_table};
+ghost use Rattle.sql_database.specs.Database.{Database, empty};
+ghost use Rattle.sql_database.specs.Applied.{with_row, with_table};
 ghost use Rattle.sql_engine.specs.Sound.{CanChange, CanCreate};
-ghost use Rattle.paged_tables.specs.Content.{HoldsNow, HoldsKept, IsFullTable};
+ghost use Rattle.paged_tables.specs.Content.{HoldsNow, HoldsKept, IsFullNow, IsFullTable};
 
 use crate::catalog::{catalog_root, entry_item, find_entry};
 use crate::reading::items_in;
@@ -14,8 +15,8 @@ use crate::rows::{change_tree, rows_of};
 use page_store::PageStore;
 use redo_record::TreeNo;
 use rm_base::{KeyRange, Name, WantOfMemory};
+use sql_database::Change;
 use sql_engine::{SpaceFull, TableStore};
-use sql_exec::Change;
 use sql_values::{Rows, Schema};
 use std::alloc::Global;
 use std::marker::Model;
@@ -89,6 +90,8 @@ impl TableStore for PagedTables {
 
     ghost kept = { HoldsKept };
 
+    ghost full = { IsFullNow };
+
     fn schema(&self, alloc: Global, name: &Name) -> Result<Option<Schema>, WantOfMemory> {
         match find_entry(alloc, &self.store, name)? {
             Some((schema, _)) => Ok(Some(schema)),
@@ -104,6 +107,7 @@ impl TableStore for PagedTables {
         rows_of(alloc, &schema, items.as_slice())
     }
 
+    #[tactic(auto, using(crate::proofs::TableLaws::full_now))]
     fn create(
         &mut self,
         alloc: Global,
@@ -114,6 +118,7 @@ impl TableStore for PagedTables {
             → IfOk result (λ a. IsOk a → HoldsNow self.new (with_table d schema.now)) }
         ensures keeps { (k : Database) → HoldsKept self.old k → HoldsKept self.new k }
         ensures full { IfOk result (λ a. OnErr a (IsFull (pages_of self.new) ROOT_PAGE)) }
+        ensures room { IfOk result (λ a. OnErr a (IsFullNow self.new)) }
     {
         let catalog = catalog_root();
         // The item takes as many bytes whatever the root is.
@@ -139,6 +144,7 @@ impl TableStore for PagedTables {
             → IfOk result (λ a. IsOk a → HoldsNow self.new (with_row d change.now)) }
         ensures keeps { (k : Database) → HoldsKept self.old k → HoldsKept self.new k }
         ensures full { IfOk result (λ a. OnErr a (IsFullTable (pages_of self.old) change.now.table (pages_of self.new))) }
+        ensures room { IfOk result (λ a. OnErr a (IsFullNow self.new)) }
     {
         let Some((schema, root)) = find_entry(alloc, &self.store, &change.table)? else {
             unreachable!()

@@ -1,14 +1,15 @@
 ghost use Rattle.std.specs.Prelude.{◌≡◌, [], ◌∷◌, codes, Some, IfOk, IfSome};
 ghost use Rattle.sql_values.specs.declared.values.Sort.TheVariants as sort;
 ghost use Rattle.row_codec.specs.Keys.{key_bytes};
-ghost use Rattle.sql_exec.specs.Applied.{Database, empty, with_table};
+ghost use Rattle.sql_database.specs.Database.{Database, empty};
+ghost use Rattle.sql_database.specs.Applied.{with_table};
 ghost use Rattle.paged_tables.specs.Content.{HoldsNow, HoldsKept};
 
 use crate::*;
 use rm_base::{Bytes, KeyRange, Name, Text, WantOfMemory};
 use row_codec::key_of;
+use sql_database::Change;
 use sql_engine::TableStore;
-use sql_exec::Change;
 use sql_values::{Column, Columns, Row, Schema, Sort, Value};
 use std::alloc::Global;
 use std::test::Fail;

@@ -5,10 +5,10 @@ use Rattle.std.specs.Fmt.{signed_decimal}
 use Rattle.sql_words.specs.Tokens.{quoted}
 use Rattle.sql_values.specs.declared.values.Value.{Value}
 use Rattle.sql_values.specs.declared.values.Value.TheVariants.{Null, Int, Text}
-use Rattle.sql_exec.specs.declared.replies.SqlReply.{SqlReply}
-use Rattle.sql_exec.specs.declared.replies.SqlReply.TheVariants as reply
-use Rattle.session_state.specs.declared.entries.Entry.{Entry}
-use Rattle.session_state.specs.declared.entries.Entry.TheVariants as entry
+use Rattle.sql_database.specs.declared.replies.SqlReply.{SqlReply}
+use Rattle.sql_database.specs.declared.replies.SqlReply.TheVariants as reply
+use Rattle.table_machine.specs.declared.entries.Entry.{Entry}
+use Rattle.table_machine.specs.declared.entries.Entry.TheVariants as entry
 
 -- NULL, a decimal number, or a text as SQL writes it
 abbrev pub value_text : Value → List ℕ

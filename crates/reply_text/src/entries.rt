@@ -5,9 +5,9 @@ ghost use Rattle.reply_text.specs.Texts as spec;
 
 use crate::replies::{append_number, reply_text};
 use rm_base::{NodeId, SessionId, Text, WantOfMemory};
-use session_state::{Entry, SessionNames};
-use sql_exec::SqlReply;
+use sql_database::SqlReply;
 use std::alloc::Global;
+use table_machine::{Entry, SessionNames};
 
 /// The text of an entry: of a reply, an order that was passed over, a node that takes the writes, and of the
 /// end, where names are asked for. With `prefix` each line of a reply begins with its session's name.

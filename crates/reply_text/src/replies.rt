@@ -4,7 +4,7 @@ ghost use Rattle.reply_text.specs.Texts as spec;
 
 use crate::values::{append_row, append_value};
 use rm_base::{Text, WantOfMemory};
-use sql_exec::SqlReply;
+use sql_database::SqlReply;
 use sql_values::Row;
 use std::alloc::Global;
 

@@ -1,11 +1,11 @@
 //! Replies and entries as they are printed.
 use crate::{entry_text, last_line, reply_text, row_line};
 use rm_base::{Bytes, Items, Name, NodeId, SessionId, SessionList};
-use session_state::{Entry, SessionNames};
-use sql_exec::SqlReply;
+use sql_database::SqlReply;
 use sql_values::{Row, Rows, Value};
 use std::alloc::Global;
 use std::test::Fail;
+use table_machine::{Entry, SessionNames};
 
 fn text(alloc: Global, bytes: &[u8]) -> Result<Bytes, Fail> {
     Ok(Items::from_vec(bytes.to_vec(alloc)?))

@@ -5,7 +5,7 @@ use Rattle.page_image.specs.Image.{unmade}
 use Rattle.redo_record.specs.declared.redo.Group.{Group}
 use Rattle.redo_record.specs.Effect.{after_groups}
 use Rattle.page_store.specs.Stored.{Stored, given_back}
-use Rattle.sql_exec.specs.Applied.{Database, empty}
+use Rattle.sql_database.specs.Database.{Database, empty}
 use Rattle.paged_tables.specs.Content.{Holds, HoldsKept}
 use Rattle.rmem_db.specs.declared.status.Status.{Status}
 use Rattle.rmem_db.specs.declared.status.Status.TheVariants.{Done, BadWords, BadScript, ReadFault, WriteFault, TooLong, BadLog, WantOfMemory}

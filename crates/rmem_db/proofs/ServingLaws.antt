@@ -11,16 +11,16 @@ use Rattle.std.specs.Io.KnownBytes.{Appends, Consumes, Keeps, IsAtEnd}
 use Rattle.rm_env.specs.declared.sink.SinkNo.{SinkNo}
 use Rattle.rm_env.specs.declared.sink.SinkNo.TheVariants as no
 use Rattle.reply_text.specs.Texts.{reply_text}
-use Rattle.sql_exec.specs.declared.replies.SqlReply.{SqlReply}
-use Rattle.sql_exec.specs.Applied.{Database, empty}
-use Rattle.session_state.specs.Laws.{LinesAreAnswered, TurnsGoOn}
-use Rattle.session_state.specs.Serving.{TableState, Turns, at_rest}
+use Rattle.sql_database.specs.declared.replies.SqlReply.{SqlReply}
+use Rattle.sql_database.specs.Database.{Database, empty}
+use Rattle.table_machine.specs.Laws.{LinesAreAnswered, TurnsGoOn}
+use Rattle.table_machine.specs.Serving.{TableState, Turns, at_rest}
 use Rattle.rmem_db.specs.declared.status.Status.{Status}
 use Rattle.rmem_db.specs.declared.status.Status.TheVariants.{Done, TooLong}
 use Rattle.rmem_db.specs.Lines.{lines, whole_lines, filled}
 use Rattle.rmem_db.specs.Reading.{Held, HasNoLf, IsLineEnd, ReadsMore, ReadsEnd, ReadsPast, ReadsSome}
 use Rattle.rmem_db.specs.Serving.{Answered, Serves, StoppedIn, IsServed, IsTooLong, IsBroken, IsCutOff, Ends, ending_for, lines_for, status_after}
-use Rattle.rmem_db.specs.Session.{Reads}
+use Rattle.rmem_db.specs.Session.{sql}
 use Rattle.rmem_db.specs.Texts.{ended, replies_text}
 use Rattle.rmem_db.specs.Writing.{AppendsFront}
 use Rattle.rmem_db.proofs.KnownText.{AppendsFront-all, AppendsFront-behind}
@@ -83,7 +83,7 @@ texts-append rs ss = flat_map-append (reply_text []) rs ss
 alone : (taken now : Option (List ℕ)) (text : List ℕ) → AppendsFront taken now text → AppendsFront taken now (text ++ [])
 alone taken now text h = subst (AppendsFront taken now) (sym (append-nil text)) h
 
-module _ (more_turns : TurnsGoOn Reads) (answers : LinesAreAnswered Reads) (left left' taken now : Option (List ℕ)) (At : TableState → Type 0) (held : Held) (s : Serves left left' taken now At held) where
+module _ (more_turns : TurnsGoOn sql) (answers : LinesAreAnswered sql) (left left' taken now : Option (List ℕ)) (At : TableState → Type 0) (held : Held) (s : Serves left left' taken now At held) where
   few_read : length s.input ≤ 4194304
   few_read = let c = s.count in let f = s.few in omega arith
 
@@ -92,7 +92,7 @@ module _ (more_turns : TurnsGoOn Reads) (answers : LinesAreAnswered Reads) (left
   begins = lines-few s.input few_read ∙ ap (λ (q : List ℕ). filled (lines q)) s.parts ∙ filled-ended s.answered held.bytes s.each
 
   -- more lines took their turns
-  abbrev all_turns : (more : List (List ℕ)) (ss : List SqlReply) (t : TableState) → Turns Reads s.state more ss t → Turns Reads (at_rest empty) (filled s.answered ++ more) (s.replies ++ ss) t
+  abbrev all_turns : (more : List (List ℕ)) (ss : List SqlReply) (t : TableState) → Turns sql s.state more ss t → Turns sql (at_rest empty) (filled s.answered ++ more) (s.replies ++ ss) t
   all_turns more ss t u = more_turns (filled s.answered) more s.replies ss (at_rest empty) s.state t s.turns u
 
   written-more : (next : Option (List ℕ)) (ss : List SqlReply) → Appends now next (replies_text ss) → Appends taken next (replies_text (s.replies ++ ss))
@@ -158,7 +158,7 @@ module _ (more_turns : TurnsGoOn Reads) (answers : LinesAreAnswered Reads) (left
               ∙ ap (λ (q : List ℕ). flat_map ended (s.answered ++ line ∷ []) ++ q) (sym bytes);
           replies = s.replies ++ a.replies;
           state = a.new;
-          turns = subst (λ (q : List (List ℕ)). Turns Reads (at_rest empty) q (s.replies ++ a.replies) a.new) (sym (filled-append s.answered (line ∷ []))) (all_turns (filled (line ∷ [])) a.replies a.new a.turns);
+          turns = subst (λ (q : List (List ℕ)). Turns sql (at_rest empty) q (s.replies ++ a.replies) a.new) (sym (filled-append s.answered (line ∷ []))) (all_turns (filled (line ∷ [])) a.replies a.new a.turns);
           stands = a.stands;
           written = written-more next a.replies a.written;
         }
@@ -206,7 +206,7 @@ module _ (more_turns : TurnsGoOn Reads) (answers : LinesAreAnswered Reads) (left
         few = few_read;
         text = replies_text s.replies;
         made = s.state.kept;
-        says = says answers (filled (whole_lines s.input)) s.replies s.state (subst (λ (q : List (List ℕ)). Turns Reads (at_rest empty) q s.replies s.state) (sym (whole_held none)) s.turns);
+        says = says answers (filled (whole_lines s.input)) s.replies s.state (subst (λ (q : List (List ℕ)). Turns sql (at_rest empty) q s.replies s.state) (sym (whole_held none)) s.turns);
         written = s.written;
         kept = has s.state s.stands;
       }
@@ -252,7 +252,7 @@ module _ (more_turns : TurnsGoOn Reads) (answers : LinesAreAnswered Reads) (left
         text = replies_text (s.replies ++ a.replies);
         made = a.new.kept;
         says = says answers (filled (lines s.input)) (s.replies ++ a.replies) a.new
-            (subst (λ (q : List (List ℕ)). Turns Reads (at_rest empty) q (s.replies ++ a.replies) a.new) (sym (last_lines none)) (all_turns (filled (held.bytes ∷ [])) a.replies a.new a.turns));
+            (subst (λ (q : List (List ℕ)). Turns sql (at_rest empty) q (s.replies ++ a.replies) a.new) (sym (last_lines none)) (all_turns (filled (held.bytes ∷ [])) a.replies a.new a.turns));
         written = written-more next a.replies a.written;
         kept = has a.new a.stands;
       }
@@ -279,7 +279,7 @@ module _ (more_turns : TurnsGoOn Reads) (answers : LinesAreAnswered Reads) (left
         past = (let f = full e in omega (arith, length-append s.input (r.byte ∷ [])));
         text = replies_text s.replies;
         made = s.state.kept;
-        says = says answers (filled (whole_lines (take 4194304 (s.input ++ r.byte ∷ [])))) s.replies s.state (subst (λ (q : List (List ℕ)). Turns Reads (at_rest empty) q s.replies s.state) (sym same) s.turns);
+        says = says answers (filled (whole_lines (take 4194304 (s.input ++ r.byte ∷ [])))) s.replies s.state (subst (λ (q : List (List ℕ)). Turns sql (at_rest empty) q s.replies s.state) (sym same) s.turns);
         written = Appends-trans taken now next (replies_text s.replies) (ended (codes "too long")) s.written written;
         kept = has s.state s.stands;
       }
@@ -353,7 +353,7 @@ Serves-start left taken At held stands start =
     }
 
 -- nothing was read or written
-pub IsCutOff-start : LinesAreAnswered Reads → (left taken : Option (List ℕ)) (Kept : Database → Type 0) → Kept empty → IsCutOff left left taken taken Kept
+pub IsCutOff-start : LinesAreAnswered sql → (left taken : Option (List ℕ)) (Kept : Database → Type 0) → Kept empty → IsCutOff left left taken taken Kept
 IsCutOff-start answers left taken Kept has =
     record {
       input = [];

@@ -22,18 +22,19 @@ use Rattle.sql_meaning.specs.Names.{scope}
 use Rattle.sql_meaning.specs.Places.{placed_action}
 use Rattle.sql_meaning.specs.Refusals.{refusal}
 use Rattle.sql_meaning.specs.Terms.{term}
-use Rattle.sql_exec.specs.declared.changes.Change.{Change}
-use Rattle.sql_exec.specs.declared.replies.SqlReply.{SqlReply}
-use Rattle.sql_exec.specs.declared.replies.SqlReply.TheVariants as reply
-use Rattle.sql_exec.specs.Answer.{Answer, Does, Gives, GivesKept, of_rows, on_target, inserted, inserts, updates, deletes, placed_rows, removed_rows, reply_of, row_or_overflow, rows_or_overflow, source, target, wanted}
-use Rattle.sql_exec.specs.Database.{whole}
-use Rattle.sql_exec.specs.Changes.{creation, first_repeat, keys_of, placing, removal}
+use Rattle.sql_database.specs.declared.changes.Change.{Change}
+use Rattle.sql_database.specs.declared.replies.SqlReply.{SqlReply}
+use Rattle.sql_database.specs.declared.replies.SqlReply.TheVariants as reply
+use Rattle.sql_database.specs.Answers.{Answer, reply_to}
+use Rattle.sql_exec.specs.Answer.{Does, Gives, GivesKept, of_rows, on_target, inserted, inserts, updates, deletes, placed_rows, removed_rows, reply_of, row_or_overflow, rows_or_overflow, source, target, wanted}
+use Rattle.sql_exec.specs.Whole.{whole}
+use Rattle.sql_database.specs.Catalog.{creation}
+use Rattle.sql_exec.specs.Changes.{first_repeat, keys_of, placing, removal}
 use Rattle.sql_exec.specs.Kept.{each, kept, set_all, values_in}
 use Rattle.sql_exec.specs.Totals.{is_null}
-use Rattle.sql_exec.specs.Applied.{Database, reply_to}
-use Rattle.session_state.specs.Machine.{Parses}
-use Rattle.session_state.specs.Serving.{Evaluates, TableState, Turn, Turns, seen}
-use Rattle.rmem_db.specs.Session.{IsOfOneSession}
+use Rattle.sql_database.specs.Database.{Database}
+use Rattle.table_machine.specs.Serving.{Evaluates, TableState, Turn, Turns, seen}
+use Rattle.rmem_db.specs.Session.{IsOfOneSession, sql}
 
 -- an answer that can be told
 abbrev IsTold : Answer → Type 0
@@ -126,14 +127,14 @@ reply_is : (r q : SqlReply) → r ≡ q → IsOfOneSession q → IsOfOneSession 
 reply_is r q e h = subst IsOfOneSession (sym e) h
 
 -- a statement that is evaluated
-evaluates_told : (st : Stmt) (old : TableState) (r : SqlReply) (new : TableState) → Evaluates st old r new → IsOfOneSession r
+evaluates_told : (st : Stmt) (old : TableState) (r : SqlReply) (new : TableState) → Evaluates sql st old r new → IsOfOneSession r
 evaluates_told st old r new (a, over, inl done) =
     let d : Database = seen old in
     reply_is r (reply_to a) done.0 (answer_told (refusal d.schemas st) (target d.schemas st) (source st (whole d.tables st)) (placed_action (scope d.schemas st) st) a over)
 evaluates_told st old r new (a, over, inr full) = reply_is r reply.SpaceFull full.0 tt
 
 -- a line
-turn_told : (read : Result Stmt ℕ) (old : TableState) (r : SqlReply) (new : TableState) → Turn read old r new → IsOfOneSession r
+turn_told : (read : Result Stmt ℕ) (old : TableState) (r : SqlReply) (new : TableState) → Turn sql read old r new → IsOfOneSession r
 turn_told (Err at) old r new h = reply_is r _ h.0 tt
 turn_told (Ok stmt.Begin) old r new (inl h) = reply_is r _ h.1 tt
 turn_told (Ok stmt.Begin) old r new (inr h) = reply_is r _ h.1 tt
@@ -148,7 +149,7 @@ turn_told (Ok (stmt.Delete t test)) old r new h = evaluates_told (stmt.Delete t 
 turn_told (Ok (stmt.Select q)) old r new h = evaluates_told (stmt.Select q) old r new h
 
 -- lines in turn are told nothing else
-pub turns_told : (parses : Parses) (old : TableState) (lines : List (List ℕ)) (rs : List SqlReply) (new : TableState) → Turns parses old lines rs new → AllByRecursion IsOfOneSession rs
-turns_told parses old [] rs new h = subst (AllByRecursion IsOfOneSession) (sym h.0) tt
-turns_told parses old (line ∷ lines) rs new (read, r, between, more, reads, turn, rest, all) =
-    subst (AllByRecursion IsOfOneSession) (sym all) (turn_told read old r between turn, turns_told parses between lines more new rest)
+pub turns_told : (old : TableState) (lines : List (List ℕ)) (rs : List SqlReply) (new : TableState) → Turns sql old lines rs new → AllByRecursion IsOfOneSession rs
+turns_told old [] rs new h = subst (AllByRecursion IsOfOneSession) (sym h.0) tt
+turns_told old (line ∷ lines) rs new (read, r, between, more, reads, turn, rest, all) =
+    subst (AllByRecursion IsOfOneSession) (sym all) (turn_told read old r between turn, turns_told between lines more new rest)

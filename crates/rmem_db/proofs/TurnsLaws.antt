@@ -3,17 +3,18 @@ use Rattle.std.proofs.Common.{◌≡◌, ℕ, Bool, true, false, cond, not, List
 use Rattle.std.proofs.lemmas.Grind.{flat_map-append}
 use Rattle.std.proofs.lemmas.List.Elements.{filter-append}
 use Rattle.std.specs.List.{AllByRecursion}
-use Rattle.sql_exec.specs.declared.replies.SqlReply.{SqlReply}
-use Rattle.sql_exec.specs.Applied.{Database, empty}
+use Rattle.sql_database.specs.declared.replies.SqlReply.{SqlReply}
+use Rattle.sql_database.specs.Database.{Database, empty}
 use Rattle.reply_text.specs.Texts.{entry_text, reply_text}
-use Rattle.session_state.specs.declared.entries.Entry.{Entry}
-use Rattle.session_state.specs.declared.entries.Entry.TheVariants as entry
-use Rattle.session_state.specs.Laws.{LinesAreAnswered}
-use Rattle.session_state.specs.Machine.{Machine, Parses}
-use Rattle.session_state.specs.Serving.{IsInTurn, IsWork, ServesInTurn, TableState, Turns, at_rest, replies_in, reply_in}
+use Rattle.table_machine.specs.declared.entries.Entry.{Entry}
+use Rattle.table_machine.specs.declared.entries.Entry.TheVariants as entry
+use Rattle.table_machine.specs.Language.{Language}
+use Rattle.table_machine.specs.Laws.{LinesAreAnswered}
+use Rattle.table_machine.specs.Machine.{Machine}
+use Rattle.table_machine.specs.Serving.{IsInTurn, IsWork, ServesInTurn, TableState, Turns, at_rest, replies_in, reply_in}
 use Rattle.rmem_db.specs.Lines.{is_blank, filled}
 use Rattle.rmem_db.specs.Serving.{IsTextFor}
-use Rattle.rmem_db.specs.Session.{Reads}
+use Rattle.rmem_db.specs.Session.{sql}
 use Rattle.rmem_db.specs.Texts.{replies_text, text_of}
 use Rattle.rmem_db.proofs.ToldLaws.{turns_told}
 
@@ -53,28 +54,28 @@ plain_works : (s : ℕ) (es : List Entry) → AllByRecursion (IsWork s) es → A
 plain_works s [] h = tt
 plain_works s (e ∷ es) h = (plain_work s e h.0, plain_works s es h.1)
 
-plain_lines : (parses : Parses) (s : ℕ) (lines : List (List ℕ)) (es : List Entry) (old new : Machine) → ServesInTurn parses s old lines es new → AllByRecursion IsPlain es
-plain_lines parses s [] es old new v = subst (AllByRecursion IsPlain) (sym v.0) tt
-plain_lines parses s (line ∷ lines) es old new v =
+plain_lines : (language : Language) (s : ℕ) (lines : List (List ℕ)) (es : List Entry) (old new : Machine) → ServesInTurn language s old lines es new → AllByRecursion IsPlain es
+plain_lines language s [] es old new v = subst (AllByRecursion IsPlain) (sym v.0) tt
+plain_lines language s (line ∷ lines) es old new v =
     let front : AllByRecursion IsPlain (entry.Submit s line ∷ (v.4.work ++ entry.Reply s v.2 ∷ [])) = (tt, plain_on v.4.work (entry.Reply s v.2 ∷ []) (plain_works s v.4.work v.4.goes_on) (tt, tt)) in
-    subst (AllByRecursion IsPlain) (sym v.6) (plain_on v.1 v.3 (subst (AllByRecursion IsPlain) (sym v.4.all) front) (plain_lines parses s lines v.3 v.0 new v.5))
+    subst (AllByRecursion IsPlain) (sym v.6) (plain_on v.1 v.3 (subst (AllByRecursion IsPlain) (sym v.4.all) front) (plain_lines language s lines v.3 v.0 new v.5))
 
-text_in_turn : (parses : Parses) (nodes : ℕ) (base : Database) (first : ℕ) (name : List ℕ) (lines : List (List ℕ)) (es : List Entry) → IsInTurn parses nodes base first name lines es
+text_in_turn : (language : Language) (nodes : ℕ) (base : Database) (first : ℕ) (name : List ℕ) (lines : List (List ℕ)) (es : List Entry) → IsInTurn language nodes base first name lines es
     → text_of es ≡ replies_text (replies_in es)
-text_in_turn parses nodes base first name lines es h =
-    plain_texts es (subst (AllByRecursion IsPlain) (sym h.5) (tt, plain_lines parses 0 lines h.2 h.0 h.1 h.4))
+text_in_turn language nodes base first name lines es h =
+    plain_texts es (subst (AllByRecursion IsPlain) (sym h.5) (tt, plain_lines language 0 lines h.2 h.0 h.1 h.4))
 
 -- lines that took their turns over empty tables have the text of their replies
-pub says : LinesAreAnswered Reads → (lines : List (List ℕ)) (rs : List SqlReply) (t : TableState) → Turns Reads (at_rest empty) lines rs t → IsTextFor lines (replies_text rs) t.kept
+pub says : LinesAreAnswered sql → (lines : List (List ℕ)) (rs : List SqlReply) (t : TableState) → Turns sql (at_rest empty) lines rs t → IsTextFor lines (replies_text rs) t.kept
 says answer lines rs t turns =
     let a = answer 1 empty 0 (codes "a") lines rs t (omega arith) turns in
     record {
       replies = rs;
       entries = a.0;
       answered = a.1;
-      told = turns_told Reads (at_rest empty) lines rs t turns;
+      told = turns_told (at_rest empty) lines rs t turns;
       makes = a.2;
-      written = ap replies_text (sym a.1.told) ∙ sym (text_in_turn Reads 1 empty 0 (codes "a") lines a.0 a.1.in_turn);
+      written = ap replies_text (sym a.1.told) ∙ sym (text_in_turn sql 1 empty 0 (codes "a") lines a.0 a.1.in_turn);
     }
 
 -- ---- lines

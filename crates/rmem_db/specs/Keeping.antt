@@ -4,7 +4,7 @@ use Rattle.page_image.specs.Image.{unmade}
 use Rattle.redo_record.specs.declared.redo.Group.{Group}
 use Rattle.redo_record.specs.Effect.{after_groups}
 use Rattle.page_store.specs.Stored.{Stored}
-use Rattle.sql_exec.specs.Applied.{Database, empty}
+use Rattle.sql_database.specs.Database.{Database, empty}
 use Rattle.paged_tables.specs.Content.{Holds}
 
 -- the pages that the groups of a log make, one group after the other from pages that are not made, hold the database

@@ -5,16 +5,16 @@ use Rattle.std.specs.Io.KnownBytes.{Appends, Consumes, IsAtEnd}
 use Rattle.rm_env.specs.Faults.{Rose}
 use Rattle.rm_env.specs.declared.sink.SinkNo.{SinkNo}
 use Rattle.rm_env.specs.declared.sink.SinkNo.TheVariants as no
-use Rattle.sql_exec.specs.declared.replies.SqlReply.{SqlReply}
-use Rattle.sql_exec.specs.Applied.{Database, empty}
-use Rattle.session_state.specs.declared.entries.Entry.{Entry}
-use Rattle.session_state.specs.Runs.{MakesDatabase}
-use Rattle.session_state.specs.Serving.{AreAnswered, TableState, Turns, at_rest}
+use Rattle.sql_database.specs.declared.replies.SqlReply.{SqlReply}
+use Rattle.sql_database.specs.Database.{Database, empty}
+use Rattle.table_machine.specs.declared.entries.Entry.{Entry}
+use Rattle.table_machine.specs.Runs.{MakesDatabase}
+use Rattle.table_machine.specs.Serving.{AreAnswered, TableState, Turns, at_rest}
 use Rattle.rmem_db.specs.declared.status.Status.{Status}
 use Rattle.rmem_db.specs.declared.status.Status.TheVariants.{Done, BadWords, BadScript, ReadFault, WriteFault, TooLong, BadLog, WantOfMemory}
 use Rattle.rmem_db.specs.Lines.{lines, whole_lines, filled}
 use Rattle.rmem_db.specs.Reading.{Held, HasNoLf}
-use Rattle.rmem_db.specs.Session.{IsOfOneSession, Reads}
+use Rattle.rmem_db.specs.Session.{IsOfOneSession, sql}
 use Rattle.rmem_db.specs.Texts.{ended, replies_text, text_of}
 use Rattle.rmem_db.specs.Writing.{AppendsFront}
 
@@ -24,9 +24,9 @@ use Rattle.rmem_db.specs.Writing.{AppendsFront}
 pub record IsTextFor (lines : List (List ℕ)) (text : List ℕ) (made : Database) : Type 0 where
   pub replies : List SqlReply
   pub entries : List Entry
-  pub answered : AreAnswered Reads 1 empty 0 (codes "a") lines replies entries
+  pub answered : AreAnswered sql 1 empty 0 (codes "a") lines replies entries
   pub told : AllByRecursion IsOfOneSession replies
-  pub makes : MakesDatabase Reads 1 empty 0 entries made
+  pub makes : MakesDatabase sql 1 empty 0 entries made
   pub written : text ≡ text_of entries
 
 -- the source was read to its end, and the replies to all its lines were written
@@ -100,7 +100,7 @@ pub record Serves (left left' taken taken' : Option (List ℕ)) (At : TableState
   pub parts : input ≡ flat_map ended answered ++ held.bytes
   pub replies : List SqlReply
   pub state : TableState
-  pub turns : Turns Reads (at_rest empty) (filled answered) replies state
+  pub turns : Turns sql (at_rest empty) (filled answered) replies state
   pub stands : At state
   pub written : Appends taken taken' (replies_text replies)
 
@@ -108,7 +108,7 @@ pub record Serves (left left' taken taken' : Option (List ℕ)) (At : TableState
 pub record Answered (old : TableState) (lines : List (List ℕ)) (At : TableState → Type 0) (taken taken' : Option (List ℕ)) : Type 0 where
   pub replies : List SqlReply
   pub new : TableState
-  pub turns : Turns Reads old lines replies new
+  pub turns : Turns sql old lines replies new
   pub stands : At new
   pub written : Appends taken taken' (replies_text replies)
 
@@ -119,7 +119,7 @@ pub record StoppedIn (old : TableState) (lines : List (List ℕ)) (Kept : Databa
   pub parts : lines ≡ first ++ others
   pub replies : List SqlReply
   pub new : TableState
-  pub turns : Turns Reads old first replies new
+  pub turns : Turns sql old first replies new
   pub kept : Kept new.kept
   pub written : AppendsFront taken taken' (replies_text replies)
 

@@ -2,16 +2,33 @@
 use Rattle.std.specs.Prelude.{◌≡◌, ℕ, is_some, List, Result, Ok, Err}
 use Rattle.sql_statements.specs.declared.statements.Stmt.{Stmt}
 use Rattle.sql_front.specs.Sentences.{IsFirst, IsSql, IsWrongAt}
-use Rattle.sql_exec.specs.declared.replies.SqlReply.{SqlReply}
-use Rattle.sql_exec.specs.declared.replies.SqlReply.TheVariants as reply
-use Rattle.sql_exec.specs.Applied.{Database}
-use Rattle.session_state.specs.Serving.{TableState, Turn, seen}
+use Rattle.sql_database.specs.declared.replies.SqlReply.{SqlReply}
+use Rattle.sql_database.specs.declared.replies.SqlReply.TheVariants as reply
+use Rattle.sql_database.specs.Database.{Database}
+use Rattle.sql_database.specs.Fitting.{IsProper}
+use Rattle.sql_exec.specs.Whole.{AnswersOver}
+use Rattle.page_store.specs.Stored.{Stored}
+use Rattle.paged_tables.specs.Content.{HoldsKept, IsFullNow}
+use Rattle.table_machine.specs.Language.{Language}
+use Rattle.table_machine.specs.Serving.{TableState, Turn, seen}
 use Rattle.rmem_db.specs.declared.session.OneSession.{OneSession}
 
 -- a text is read as a statement, or is first wrong at an offset
 abbrev pub Reads : List ℕ → Result Stmt ℕ → Type 0
 Reads text (Ok s) = IsSql text s
 Reads text (Err at) = IsFirst (IsWrongAt text) at
+
+-- a store of tables on pages that keeps a database is full
+abbrev pub CanBeFull : Database → Type 0
+CanBeFull d = (tables : Stored) × HoldsKept tables d × IsFullNow tables
+
+-- the language: texts read so, the answers over whole tables, and no room where the pages are full
+abbrev pub sql : Language
+sql = record { parses = Reads; answers = AnswersOver; full = CanBeFull }
+
+-- no text makes a table under the catalog's word
+abbrev pub MakesProperTables : Type 0
+MakesProperTables = (text : List ℕ) (st : Stmt) → sql.parses text (Ok st) → IsProper st
 
 -- what a session that is alone can be told: nothing of other writers, of nodes that fail, or of a full pool
 abbrev pub IsOfOneSession : SqlReply → Type 0
@@ -40,4 +57,4 @@ pub record Takes {W : Type 0} (Kept Shown : W → Database → Type 0) (Step : S
 pub record TakesTurn {W : Type 0} (Kept Shown : W → Database → Type 0) (line : List ℕ) (old : TableState) (session : OneSession W) (r : SqlReply) : Type 0 where
   pub read : Result Stmt ℕ
   pub reads : Reads line read
-  pub takes : Takes Kept Shown (Turn read old) session r
+  pub takes : Takes Kept Shown (Turn sql read old) session r

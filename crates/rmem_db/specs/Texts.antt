@@ -1,7 +1,7 @@
 -- Single output lines, and the text of a run of the table machine.
 use Rattle.std.specs.Prelude.{ℕ, false, List, [], ◌∷◌, ◌++◌, flat_map}
-use Rattle.sql_exec.specs.declared.replies.SqlReply.{SqlReply}
-use Rattle.session_state.specs.declared.entries.Entry.{Entry}
+use Rattle.sql_database.specs.declared.replies.SqlReply.{SqlReply}
+use Rattle.table_machine.specs.declared.entries.Entry.{Entry}
 use Rattle.reply_text.specs.Texts.{journal_text, reply_text}
 
 -- one output line

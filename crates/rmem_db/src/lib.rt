@@ -13,5 +13,6 @@ mod tables;
 mod tests;
 mod writing;
 
+pub use language::sql_laws;
 pub use running::run;
 pub use status::Status;

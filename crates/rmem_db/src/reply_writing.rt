@@ -7,7 +7,7 @@ ghost use Rattle.rmem_db.specs.Writing.{AppendsFront};
 use crate::writing::write_piece;
 use reply_text::{last_line, row_line, rows_of};
 use rm_env::{Sink, SinkNo};
-use sql_exec::SqlReply;
+use sql_database::SqlReply;
 use sql_values::Row;
 use std::alloc::Global;
 

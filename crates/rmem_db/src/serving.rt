@@ -1,7 +1,7 @@
 ghost use Rattle.std.specs.Prelude.{ℕ, List, [], ◌∷◌, ◌≡◌, ◌≢◌, ◌↔◌, ◌≤◌, IsTrue, ◌<◌, OnOk, OnErr, IfErr, Option, IsErrOf, IsSome, IsNone};
-ghost use Rattle.sql_exec.specs.Applied.{empty};
+ghost use Rattle.sql_database.specs.Database.{empty};
 ghost use Rattle.rm_env.specs.Faults.{Rose};
-ghost use Rattle.session_state.specs.Serving.{TableState, at_rest};
+ghost use Rattle.table_machine.specs.Serving.{TableState, at_rest};
 ghost use Rattle.rmem_db.specs.Keeping.{HasKept};
 ghost use Rattle.rmem_db.specs.Lines.{is_blank, filled};
 ghost use Rattle.rmem_db.specs.Reading.{HasNoLf};
@@ -17,8 +17,8 @@ use crate::tables::Working;
 use crate::writing::write_piece;
 use paged_tables::PagedTables;
 use rm_env::{Sink, SinkNo, Source};
-use session_state::serving_laws;
 use std::alloc::Global;
+use table_machine::serving_laws;
 
 /// Whether the line is of spaces, tabs and CRs alone.
 fn is_blank(line: &[u8]) -> bool

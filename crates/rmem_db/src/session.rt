@@ -1,18 +1,18 @@
 ghost use Rattle.std.specs.Prelude.{◌≡◌, ◌↔◌, IsTrue, IfOk, OnErr, Ok};
-ghost use Rattle.sql_exec.specs.Answer.{IsEvaluated};
+ghost use Rattle.sql_database.specs.Statements.{IsEvaluated};
 ghost use Rattle.sql_engine.specs.Executed.{MakesTable};
-ghost use Rattle.session_state.specs.Serving.{Evaluates, GivesBack, Keeps, Opens, TableState, Turn};
-ghost use Rattle.rmem_db.specs.Session.{Stands, Takes, TakesTurn};
+ghost use Rattle.table_machine.specs.Serving.{Evaluates, GivesBack, Keeps, Opens, TableState, Turn};
+ghost use Rattle.rmem_db.specs.Session.{Stands, Takes, TakesTurn, sql};
 
 use crate::language::Sql;
 use crate::tables::Working;
 use rm_base::WantOfMemory;
-use session_state::serving_laws;
+use sql_database::SqlReply;
 use sql_engine::execute;
-use sql_exec::SqlReply;
 use sql_front::{created_tables, parse};
 use sql_statements::Stmt;
 use std::alloc::Global;
+use table_machine::serving_laws;
 
 /// Whether there was no room.
 fn is_full(reply: &SqlReply) -> bool
@@ -71,12 +71,13 @@ impl<W: Working> OneSession<W> {
         requires kind { IsEvaluated statement.now }
         requires made { MakesTable statement.now }
         ensures ok { (t : TableState) → Stands W.kept W.tables self.old t
-            → IfOk result (Takes W.kept W.tables (Evaluates statement.now t) self.new) }
+            → IfOk result (Takes W.kept W.tables (Evaluates sql statement.now t) self.new) }
         ensures err { (t : TableState) → Stands W.kept W.tables self.old t → OnErr result (W.kept self.new.tables t.kept) }
     {
         serving_laws::<Sql>();
         let reply = execute(alloc, &mut self.tables, statement)?;
         if is_full(&reply) {
+            self.tables.fills();
             self.tables.give_back();
             self.in_transaction = false;
             return Ok(reply);
@@ -93,7 +94,7 @@ impl<W: Working> OneSession<W> {
         requires some { (t : TableState) × Stands W.kept W.tables self.old t }
         requires made { MakesTable statement.now }
         ensures ok { (t : TableState) → Stands W.kept W.tables self.old t
-            → IfOk result (Takes W.kept W.tables (Turn (Ok statement.now) t) self.new) }
+            → IfOk result (Takes W.kept W.tables (Turn sql (Ok statement.now) t) self.new) }
         ensures err { (t : TableState) → Stands W.kept W.tables self.old t → OnErr result (W.kept self.new.tables t.kept) }
     {
         match statement {

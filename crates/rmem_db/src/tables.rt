@@ -3,7 +3,12 @@ use sql_engine::TableStore;
 
 /// A store of tables whose changes are kept or given back. `kept` says which database stands without them.
 pub(crate) trait Working: TableStore {
-    ghost use Rattle.sql_exec.specs.Applied.{Database};
+    ghost use Rattle.sql_database.specs.Database.{Database};
+    ghost use Rattle.rmem_db.specs.Session.{CanBeFull};
+
+    /// A store that is full is one that can be. It does nothing when it is run.
+    fn fills(&self)
+        ensures { (k : Database) → Self.kept self.now k → Self.full self.now → CanBeFull k };
 
     /// Keeps the changes.
     fn keep(&mut self)
@@ -17,6 +22,9 @@ pub(crate) trait Working: TableStore {
 }
 
 impl Working for PagedTables {
+    #[tactic(auto, using(crate::proofs::SessionLaws::can_be_full))]
+    fn fills(&self) {}
+
     fn keep(&mut self) {
         PagedTables::keep(self);
     }

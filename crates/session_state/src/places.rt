@@ -1,9 +1,9 @@
 ghost use Rattle.std.specs.Prelude.{◌≡◌, []};
 
 use crate::queue::Queue;
-use crate::roomy::Roomy;
 use rm_base::{Bytes, Items, NodeId, SessionId, SessionList, Stamp, TrxId};
 use std::alloc::Global;
+use table_machine::Roomy;
 
 /// Where a session stands: it has no transaction; it has one, with a snapshot and perhaps a number; or it
 /// lost one with its node and has not been told.

@@ -1,5 +1,5 @@
-use crate::roomy::Roomy;
 use rm_base::{SessionId, Stamp};
+use table_machine::Roomy;
 
 /// A commit whose group is not known to be in the store: the session that waits for it, its stamp, and the
 /// offset of the log at which its group ends.

@@ -13,10 +13,11 @@ use Rattle.row_codec.specs.Keys.{key_bytes}
 use Rattle.row_codec.specs.Records.{key_cell}
 use Rattle.sql_meaning.specs.declared.resolved.Resolved.{Resolved}
 use Rattle.sql_meaning.specs.Ranges.{in_range, tuple_range}
-use Rattle.sql_exec.specs.declared.replies.SqlReply.TheVariants as reply
-use Rattle.sql_exec.specs.Answer.{inserted, inserts, of_rows, refused, wanted}
+use Rattle.sql_database.specs.declared.replies.SqlReply.TheVariants as reply
+use Rattle.sql_exec.specs.Answer.{inserted, inserts, of_rows, wanted}
+use Rattle.sql_database.specs.Answers.{refused}
 use Rattle.sql_exec.specs.Changes.{first_repeat, is_same, keys_of, placing}
-use Rattle.sql_exec.specs.Database.{Tables}
+use Rattle.sql_database.specs.Database.{Tables}
 use Rattle.sql_exec.specs.Kept.{each, values_in}
 use Rattle.sql_exec.specs.Totals.{is_null}
 use Rattle.sql_exec.proofs.InsertLaws.{outside_is_needless}

@@ -1,5 +1,5 @@
 -- A statement's outcome, and what its changes make, as what the statement does to the database.
-use Rattle.std.proofs.Common.{◌≡◌, ◌≢◌, ℕ, Bool, true, false, if◌then◌else◌, List, [], ◌∷◌, length, Result, Ok, Err, IsOk, IsErr, codes, flat_map, fold, Some, None, refl, sym, ap, subst, ◌∙◌, inl, inr}
+use Rattle.std.proofs.Common.{◌≡◌, ◌≢◌, ℕ, Bool, true, false, if◌then◌else◌, List, [], ◌∷◌, length, Result, Ok, Err, IsOk, IsErr, OnErr, codes, flat_map, fold, Some, None, refl, sym, ap, subst, ◌∙◌, inl, inr}
 use Rattle.std.specs.List.{AllByRecursion}
 use Rattle.std.specs.Str.{bytes_eq}
 use Rattle.sql_values.specs.declared.values.Sort.{Sort}
@@ -9,13 +9,16 @@ use Rattle.sql_values.specs.declared.schemas.Schema.{Schema}
 use Rattle.sql_statements.specs.declared.statements.Stmt.{Stmt}
 use Rattle.sql_statements.specs.declared.statements.Stmt.TheVariants as stmt
 use Rattle.sql_meaning.specs.Names.{table_named}
-use Rattle.sql_exec.specs.declared.changes.Change.{Change}
-use Rattle.sql_exec.specs.declared.replies.Outcome.TheVariants as outcome
-use Rattle.sql_exec.specs.declared.replies.SqlReply.{SqlReply}
-use Rattle.sql_exec.specs.declared.replies.SqlReply.TheVariants as reply
-use Rattle.sql_exec.specs.Answer.{Answer, ComesFrom, outcome_of, refused, rows, wants}
-use Rattle.sql_exec.specs.Applied.{AnswersOver, Database, applied, changed, columns_of, is_of_catalog, schema_of, sort_of, with_catalog, with_row, with_table}
-use Rattle.sql_exec.specs.Changes.{column_cells, creation, schema_row, sort_number}
+use Rattle.sql_database.specs.declared.changes.Change.{Change}
+use Rattle.sql_exec.specs.declared.outcomes.Outcome.TheVariants as outcome
+use Rattle.sql_database.specs.declared.replies.SqlReply.{SqlReply}
+use Rattle.sql_database.specs.declared.replies.SqlReply.TheVariants as reply
+use Rattle.sql_database.specs.Answers.{Answer, refused, rows, wants}
+use Rattle.sql_exec.specs.Answer.{ComesFrom, outcome_of}
+use Rattle.sql_exec.specs.Whole.{AnswersOver}
+use Rattle.sql_database.specs.Database.{Database}
+use Rattle.sql_database.specs.Applied.{applied, changed, with_catalog, with_row, with_table}
+use Rattle.sql_database.specs.Catalog.{columns_of, is_of_catalog, schema_of, sort_of, column_cells, creation, schema_row, sort_number}
 use Rattle.sql_engine.specs.Executed.{Executes}
 use Rattle.sql_engine.specs.Made.{Suits}
 use Rattle.sql_engine.specs.Sound.{IsSound}
@@ -76,13 +79,13 @@ changes_from d s cs (wants bs n None) is h =
 changes_from d s cs (wants bs n (Some k)) is h = absurd cc
 
 -- What is known where a statement wants changes of rows: they can be made, and what comes of it.
-pub record WantsRows (d : Database) (s : Stmt) (cs : List Change) (IsAfter : Database → Type 0) : Type 0 where
+pub record WantsRows (d : Database) (s : Stmt) (cs : List Change) (IsAfter : Database → Type 0) (IsFull : Type 0) : Type 0 where
   pub suit : AllByRecursion (Suits d.schemas) cs
-  pub done : IsAfter (fold with_row d cs) → Executes d s IsAfter (reply.Ok (length cs))
-  pub full : cs ≢ [] → Executes d s IsAfter reply.SpaceFull
+  pub done : IsAfter (fold with_row d cs) → Executes d s IsAfter IsFull (reply.Ok (length cs))
+  pub full : cs ≢ [] → IsFull → Executes d s IsAfter IsFull reply.SpaceFull
 
-pub wants_rows : (d : Database) (s : Stmt) (cs : List Change) (IsAfter : Database → Type 0) → IsSound d → ChangesRows s → ComesFrom (AnswersOver d s) (outcome.Changes cs) → WantsRows d s cs IsAfter
-wants_rows d s cs IsAfter sound changes from =
+pub wants_rows : (d : Database) (s : Stmt) (cs : List Change) (IsAfter : Database → Type 0) (IsFull : Type 0) → IsSound d → ChangesRows s → ComesFrom (AnswersOver d s) (outcome.Changes cs) → WantsRows d s cs IsAfter IsFull
+wants_rows d s cs IsAfter IsFull sound changes from =
     let given = changes_from d s cs from.answer from.is from.gives in
     let wanted = rows_wanted d sound s changes cs given.many given.is in record {
       suit = wanted.suit;
@@ -91,17 +94,17 @@ wants_rows d s cs IsAfter sound changes from =
         is = given.is;
         ends = inl (ap reply.Ok (sym wanted.many), subst IsAfter (sym (rows_applied d cs wanted.suit sound.word)) after);
       };
-      full = λ some. record { answer = wants cs given.many None; is = given.is; ends = inr (refl, some) };
+      full = λ some room. record { answer = wants cs given.many None; is = given.is; ends = inr (refl, some, room) };
     }
 
 -- The same where it wants a table.
-pub record WantsTable (d : Database) (s : Schema) (IsAfter : Database → Type 0) : Type 0 where
+pub record WantsTable (d : Database) (s : Schema) (IsAfter : Database → Type 0) (IsFull : Type 0) : Type 0 where
   pub absent : table_named d.schemas s.table ≡ None
-  pub done : IsAfter (with_table d s) → Executes d (stmt.Create s) IsAfter (reply.Ok 0)
-  pub full : Executes d (stmt.Create s) IsAfter reply.SpaceFull
+  pub done : IsAfter (with_table d s) → Executes d (stmt.Create s) IsAfter IsFull (reply.Ok 0)
+  pub full : IsFull → Executes d (stmt.Create s) IsAfter IsFull reply.SpaceFull
 
-pub wants_table : (d : Database) (s : Schema) (cs : List Change) (IsAfter : Database → Type 0) → ComesFrom (AnswersOver d (stmt.Create s)) (outcome.Changes cs) → WantsTable d s IsAfter
-wants_table d s cs IsAfter from =
+pub wants_table : (d : Database) (s : Schema) (cs : List Change) (IsAfter : Database → Type 0) (IsFull : Type 0) → ComesFrom (AnswersOver d (stmt.Create s)) (outcome.Changes cs) → WantsTable d s IsAfter IsFull
+wants_table d s cs IsAfter IsFull from =
     let given = changes_from d (stmt.Create s) cs from.answer from.is from.gives in
     let wanted = table_wanted d s cs given.many given.is in record {
       absent = wanted.absent;
@@ -110,12 +113,17 @@ wants_table d s cs IsAfter from =
         is = given.is;
         ends = inl (ap reply.Ok (sym wanted.many), subst IsAfter (sym (ap (applied d) wanted.changes ∙ creation_is d s)) after);
       };
-      full = record {
+      full = λ room. record {
         answer = wants cs given.many None;
         is = given.is;
-        ends = inr (refl, λ e. let none : creation s ∷ [] ≡ [] = sym wanted.changes ∙ e in cc);
+        ends = inr (refl, (λ e. let none : creation s ∷ [] ≡ [] = sym wanted.changes ∙ e in cc), room);
       };
     }
+
+-- what holds on an error holds where there is one
+pub on_error : {A E : Type 0} (made : Result A E) (P : Type 0) → OnErr made P → IsErr made → P
+on_error (Ok u) P h e = absurd cc
+on_error (Err x) P h e = h
 
 -- what is told of changes that were made, or that found no room
 pub by_made : {A E : Type 0} (made : Result A E) (r ok : SqlReply) (Is : SqlReply → Type 0) → (IsOk made → r ≡ ok) → (IsErr made → r ≡ reply.SpaceFull) → (IsOk made → Is ok) → (IsErr made → Is reply.SpaceFull) → Is r

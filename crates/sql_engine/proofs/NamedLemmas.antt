@@ -14,7 +14,8 @@ use Rattle.sql_meaning.specs.Names.{table_named, table_fields, tables, scope, ta
 use Rattle.sql_meaning.specs.Places.{placed_action}
 use Rattle.sql_meaning.specs.Refusals.{refusal, exists, first_missing, table_refusal, unknown_column, has_right_types, set_key, counts_match, is_right}
 use Rattle.sql_exec.specs.declared.rows.RangeRows.{RangeRows}
-use Rattle.sql_exec.specs.Answer.{Answer, Answers, Does, refused, reply_of, source, target}
+use Rattle.sql_database.specs.Answers.{Answer, refused}
+use Rattle.sql_exec.specs.Answer.{Answers, Does, reply_of, source, target}
 use Rattle.sql_engine.specs.Read.{AreOf, mentioned, schemas_named}
 
 pub same_text : (a b : List ℕ) → bytes_eq a b ≡ true → a ≡ b

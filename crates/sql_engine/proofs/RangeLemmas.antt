@@ -17,7 +17,7 @@ use Rattle.sql_statements.specs.declared.statements.Stmt.TheVariants as stmt
 use Rattle.sql_meaning.specs.Names.{table_named}
 use Rattle.sql_meaning.specs.Ranges.{Bound, KeyPlaces, bounds_of, end_of, greatest, least, in_range, in_ranges, is_above, is_high, is_low, key_place, key_places, left_ranges, range_at, range_between, ranges, right_ranges, statement_test, test_ranges, width_of}
 use Rattle.sql_meaning.specs.Refusals.{refusal}
-use Rattle.sql_exec.specs.Database.{Tables}
+use Rattle.sql_database.specs.Database.{Tables}
 use Rattle.sql_engine.specs.Read.{ranges_rows, range_rows, table_rows}
 use Rattle.sql_engine.proofs.NamedLemmas.{found_named}
 

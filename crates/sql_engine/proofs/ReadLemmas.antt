@@ -19,11 +19,12 @@ use Rattle.sql_meaning.specs.Ranges.{left_ranges, ranges, statement_test, tuple_
 use Rattle.sql_meaning.specs.Refusals.{refusal, exists, first_missing, table_refusal, unknown_column, has_right_types}
 use Rattle.sql_plan.specs.Needed.{FailsTest, Sides, joined_tables, only_table}
 use Rattle.sql_plan.proofs.Needed.{leaves_out_none}
-use Rattle.sql_exec.specs.declared.replies.Outcome.{Outcome}
+use Rattle.sql_exec.specs.declared.outcomes.Outcome.{Outcome}
 use Rattle.sql_exec.specs.declared.rows.RangeRows.{RangeRows}
-use Rattle.sql_exec.specs.Answer.{Answer, Answers, ComesFrom, Does, inserts, on_target, refused, reply_of, source, target}
-use Rattle.sql_exec.specs.Applied.{AnswersOver, Database}
-use Rattle.sql_exec.specs.Database.{Each, HasNeeded, IsNeedless, Without, whole}
+use Rattle.sql_database.specs.Answers.{Answer, refused}
+use Rattle.sql_exec.specs.Answer.{Answers, ComesFrom, Does, inserts, on_target, reply_of, source, target}
+use Rattle.sql_exec.specs.Whole.{AnswersOver, Each, HasNeeded, IsNeedless, Without, whole}
+use Rattle.sql_database.specs.Database.{Database}
 use Rattle.sql_exec.specs.Kept.{pairs}
 use Rattle.sql_exec.proofs.RangeLaws.{filtered_is_without, joined_is_without}
 use Rattle.sql_exec.proofs.WholeLaws.{over_whole}

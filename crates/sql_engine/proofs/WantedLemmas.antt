@@ -23,13 +23,15 @@ use Rattle.sql_meaning.specs.Places.{both_tests, placed_action, placed_on, place
 use Rattle.sql_meaning.specs.Refusals.{counts_match, fits_fields, has_right_types, is_condition, is_right, refusal, set_key, sets_right, table_refusal, unknown_column}
 use Rattle.sql_meaning.specs.Terms.{Term, term}
 use Rattle.sql_plan.proofs.NeededTests.{and_both}
-use Rattle.sql_exec.specs.declared.changes.Change.{Change}
-use Rattle.sql_exec.specs.declared.replies.SqlReply.TheVariants as reply
-use Rattle.sql_exec.specs.Answer.{Answer, Does, Gives, GivesKept, deletes, inserted, inserts, of_rows, on_target, placed_rows, refused, removed_rows, reply_of, row_or_overflow, rows, rows_or_overflow, source, target, updates, wanted, wants}
-use Rattle.sql_exec.specs.Applied.{AnswersOver, Database}
-use Rattle.sql_exec.specs.Changes.{creation, first_repeat, fits_key, keys_of, placing, removal}
+use Rattle.sql_database.specs.declared.changes.Change.{Change}
+use Rattle.sql_database.specs.declared.replies.SqlReply.TheVariants as reply
+use Rattle.sql_database.specs.Answers.{Answer, refused, rows, wants}
+use Rattle.sql_exec.specs.Answer.{Does, Gives, GivesKept, deletes, inserted, inserts, of_rows, on_target, placed_rows, removed_rows, reply_of, row_or_overflow, rows_or_overflow, source, target, updates, wanted}
+use Rattle.sql_exec.specs.Whole.{AnswersOver, whole}
+use Rattle.sql_database.specs.Database.{Database}
+use Rattle.sql_database.specs.Catalog.{creation}
+use Rattle.sql_exec.specs.Changes.{first_repeat, fits_key, keys_of, placing, removal}
 use Rattle.sql_exec.specs.Kept.{each, kept, set_all, values_in}
-use Rattle.sql_exec.specs.Database.{whole}
 use Rattle.sql_exec.specs.Order.{limited}
 use Rattle.sql_exec.specs.Totals.{is_null, total_of}
 use Rattle.sql_engine.specs.Made.{Suits}

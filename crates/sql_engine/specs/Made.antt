@@ -7,7 +7,7 @@ use Rattle.row_codec.specs.declared.spelling.TheConstants.{LARGEST_RECORD}
 use Rattle.row_codec.specs.Keys.{key_bytes}
 use Rattle.row_codec.specs.Records.{FitsSchema, key_cell, record_length, value_bytes}
 use Rattle.sql_meaning.specs.Names.{table_named}
-use Rattle.sql_exec.specs.declared.changes.Change.{Change}
+use Rattle.sql_database.specs.declared.changes.Change.{Change}
 
 -- a row of the schema with that key, within the limits
 pub record SuitsRow (schema : Schema) (key : List ℕ) (row : List Value) : Type 0 where

@@ -11,7 +11,7 @@ use Rattle.sql_statements.specs.declared.statements.Stmt.TheVariants as stmt
 use Rattle.sql_meaning.specs.Names.{table_named}
 use Rattle.sql_meaning.specs.Ranges.{in_range, ranges}
 use Rattle.sql_exec.specs.declared.rows.RangeRows.{RangeRows}
-use Rattle.sql_exec.specs.Database.{Tables}
+use Rattle.sql_database.specs.Database.{Tables}
 
 -- the tables that a statement names, in the order of the text
 abbrev pub mentioned : Stmt → List (List ℕ)

@@ -7,8 +7,8 @@ use Rattle.row_codec.specs.declared.keys.TheConstants.{LONGEST_KEY}
 use Rattle.row_codec.specs.Records.{AreI64, FitsSchema, IsRecord, value_bytes}
 use Rattle.sql_catalog.specs.Catalog.{IsName, IsNamed, IsTable}
 use Rattle.sql_meaning.specs.Names.{table_named}
-use Rattle.sql_exec.specs.declared.changes.Change.{Change}
-use Rattle.sql_exec.specs.Applied.{Database}
+use Rattle.sql_database.specs.declared.changes.Change.{Change}
+use Rattle.sql_database.specs.Database.{Database}
 
 -- a row of a table: its cells fit the columns, its key is not NULL, and its INTs are i64
 pub record IsRow (schema : Schema) (row : List Value) : Type 0 where

@@ -1,6 +1,8 @@
 ghost use Rattle.std.specs.Prelude.{◌≡◌, ◌≢◌, IfOk, IsErr, IsOk, OnOk};
-ghost use Rattle.sql_exec.specs.Answer.{ComesFrom, IsEvaluated};
-ghost use Rattle.sql_exec.specs.Applied.{AnswersOver, Database};
+ghost use Rattle.sql_exec.specs.Answer.{ComesFrom};
+ghost use Rattle.sql_database.specs.Statements.{IsEvaluated};
+ghost use Rattle.sql_exec.specs.Whole.{AnswersOver};
+ghost use Rattle.sql_database.specs.Database.{Database};
 ghost use Rattle.sql_engine.specs.Executed.{Executes, MakesTable};
 
 use crate::making::{make_changes, make_table};
@@ -8,12 +10,14 @@ use crate::naming::schemas_named;
 use crate::reading::read;
 use crate::store::{SpaceFull, TableStore};
 use rm_base::WantOfMemory;
-use sql_exec::{Changes, Outcome, SqlReply, eval};
+use sql_database::{Changes, SqlReply};
+use sql_exec::{Outcome, eval};
 use sql_statements::Stmt;
 use std::alloc::Global;
 
 /// Runs one statement that is no BEGIN, COMMIT or ROLLBACK, and gives what the session is to be told. What the
-/// store keeps stays. After `SpaceFull` or want of memory nothing else is said of the store.
+/// store keeps stays. After `SpaceFull` the store is full, and nothing else is said of it then, nor after want
+/// of memory.
 pub fn execute<T: TableStore>(
     alloc: Global,
     store: &mut T,
@@ -23,7 +27,7 @@ pub fn execute<T: TableStore>(
     requires makes { MakesTable statement.now }
     requires known { (d : Database) × T.tables store.old d }
     ensures executes { (d : Database) → T.tables store.old d
-        → IfOk result (Executes d statement.now (T.tables store.new)) }
+        → IfOk result (Executes d statement.now (T.tables store.new) (T.full store.new)) }
     ensures keeps { (k : Database) → T.kept store.old k → T.kept store.new k }
 {
     match answered(alloc, store, statement)? {
@@ -62,7 +66,7 @@ fn make<T: TableStore>(
         × ComesFrom (AnswersOver d statement.now) (Outcome.Changes changes.now) }
     ensures executes { (d : Database) → T.tables store.old d
         → ComesFrom (AnswersOver d statement.now) (Outcome.Changes changes.now)
-        → IfOk result (Executes d statement.now (T.tables store.new)) }
+        → IfOk result (Executes d statement.now (T.tables store.new) (T.full store.new)) }
     ensures keeps { (k : Database) → T.kept store.old k → T.kept store.new k }
 {
     store.rules();

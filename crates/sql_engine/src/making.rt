@@ -1,15 +1,16 @@
-ghost use Rattle.std.specs.Prelude.{◌≡◌, ◌≢◌, ◌∷◌, IfOk, IsErr, IsOk, OnOk, None, [], fold, length};
+ghost use Rattle.std.specs.Prelude.{◌≡◌, ◌≢◌, ◌∷◌, IfOk, IsErr, IsOk, OnErr, OnOk, None, [], fold, length};
 ghost use Rattle.std.specs.List.{AllByRecursion};
 ghost use Rattle.row_codec.specs.Records.{AreI64};
 ghost use Rattle.sql_catalog.specs.Catalog.{IsName, IsNamed};
 ghost use Rattle.sql_meaning.specs.Names.{table_named};
-ghost use Rattle.sql_exec.specs.Applied.{Database, with_row, with_table};
+ghost use Rattle.sql_database.specs.Database.{Database};
+ghost use Rattle.sql_database.specs.Applied.{with_row, with_table};
 ghost use Rattle.sql_engine.specs.Made.{Suits};
 ghost use Rattle.sql_engine.specs.Sound.{IsNewTable};
 
 use crate::store::{SpaceFull, TableStore};
 use rm_base::{Name, WantOfMemory};
-use sql_exec::{Change, Changes};
+use sql_database::{Change, Changes};
 use sql_values::{Row, Schema, Value};
 use std::alloc::Global;
 
@@ -23,6 +24,7 @@ pub fn make_table<T: TableStore>(
     requires absent { (d : Database) × T.tables store.old d × (table_named d.schemas schema.now.table ≡ None) }
     ensures made { (d : Database) → T.tables store.old d → table_named d.schemas schema.now.table ≡ None
         → IfOk result (λ a. IsOk a → T.tables store.new (with_table d schema.now)) }
+    ensures room { IfOk result (λ a. OnErr a (T.full store.new)) }
     ensures keeps { (k : Database) → T.kept store.old k → T.kept store.new k }
 {
     read_names(schema);
@@ -39,6 +41,7 @@ pub fn make_changes<T: TableStore>(
     ensures made { (d : Database) → T.tables store.old d → AllByRecursion (Suits d.schemas) changes.now
         → IfOk result (λ a. IsOk a → T.tables store.new (fold with_row d changes.now)) }
     ensures full { IfOk result (λ a. IsErr a → changes.now ≢ []) }
+    ensures room { IfOk result (λ a. OnErr a (T.full store.new)) }
     ensures keeps { (k : Database) → T.kept store.old k → T.kept store.new k }
 {
     for change in changes.as_slice() {
@@ -57,6 +60,7 @@ fn make_change<T: TableStore>(
     requires { (d : Database) × T.tables store.old d × Suits d.schemas change.now }
     ensures made { (d : Database) → T.tables store.old d → Suits d.schemas change.now
         → IfOk result (λ a. IsOk a → T.tables store.new (with_row d change.now)) }
+    ensures room { IfOk result (λ a. OnErr a (T.full store.new)) }
     ensures keeps { (k : Database) → T.kept store.old k → T.kept store.new k }
 {
     if let Some(row) = &change.row {

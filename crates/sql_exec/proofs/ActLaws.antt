@@ -9,10 +9,12 @@ use Rattle.sql_meaning.specs.declared.refusals.Refusal.{Refusal}
 use Rattle.sql_meaning.specs.Names.{scope}
 use Rattle.sql_meaning.specs.Places.{placed_action}
 use Rattle.sql_meaning.specs.Refusals.{refusal}
-use Rattle.sql_exec.specs.declared.replies.Outcome.{Outcome}
-use Rattle.sql_exec.specs.declared.replies.Outcome.TheVariants as outcome
+use Rattle.sql_exec.specs.declared.outcomes.Outcome.{Outcome}
+use Rattle.sql_exec.specs.declared.outcomes.Outcome.TheVariants as outcome
 use Rattle.sql_exec.specs.declared.rows.RangeRows.{RangeRows}
-use Rattle.sql_exec.specs.Answer.{Answers, ComesFrom, Does, IsAct, IsEvaluated, refused, reply_of, source, target}
+use Rattle.sql_exec.specs.Answer.{Answers, ComesFrom, Does, IsAct, reply_of, source, target}
+use Rattle.sql_database.specs.Statements.{IsEvaluated}
+use Rattle.sql_database.specs.Answers.{refused}
 
 pub acts : (fields : List Field) (s : Stmt) → IsEvaluated s → IsAct (placed_action fields s)
 acts fields (stmt.Create s) h = tt

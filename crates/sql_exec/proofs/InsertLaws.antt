@@ -18,7 +18,7 @@ use Rattle.sql_meaning.specs.Evaluation.{value_in}
 use Rattle.sql_meaning.specs.Ranges.{in_range, in_ranges, own_range, tuple_range}
 use Rattle.sql_meaning.specs.Terms.{term}
 use Rattle.sql_exec.specs.Changes.{is_same, keys_of}
-use Rattle.sql_exec.specs.Database.{HasOtherKey}
+use Rattle.sql_exec.specs.Whole.{HasOtherKey}
 use Rattle.sql_exec.specs.Kept.{each, values_in, with_both}
 
 self_equal : (o : Ordering) → o ≡ ordering_reverse o → o ≡ Ordering.Equal

@@ -6,3 +6,9 @@ pub mod InsertLaws
 pub mod RangeLaws
 pub mod SeenLaws
 pub mod TotalLaws
+pub mod FairLaws
+pub mod OnceLaws
+pub mod SomeLaws
+pub mod ContentLaws
+pub mod FitLaws
+pub mod AnswerLaws

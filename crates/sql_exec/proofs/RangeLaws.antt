@@ -2,7 +2,7 @@
 use Rattle.std.proofs.Common.{◌≡◌, Bool, true, false, cond, List, [], ◌∷◌, ◌++◌, map, refl, ap, inl, inr}
 use Rattle.std.specs.Prelude.{filter}
 use Rattle.sql_values.specs.declared.values.Value.{Value}
-use Rattle.sql_exec.specs.Database.{Each, FilteredIsWithout, IsNeedless, JoinedIsWithout, Without}
+use Rattle.sql_exec.specs.Whole.{Each, FilteredIsWithout, IsNeedless, JoinedIsWithout, Without}
 use Rattle.sql_exec.specs.Kept.{pairs}
 
 leave : (P : List Value → Type 0) (x : List Value) (xs ys : List (List Value)) → P x → Without P xs ys → Without P (x ∷ xs) ys

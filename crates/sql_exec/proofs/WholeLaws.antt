@@ -17,11 +17,12 @@ use Rattle.sql_meaning.specs.Names.{scope}
 use Rattle.sql_meaning.specs.Places.{placed_action}
 use Rattle.sql_meaning.specs.Refusals.{refusal}
 use Rattle.sql_meaning.specs.Terms.{Term, term}
-use Rattle.sql_exec.specs.Answer.{Answer, Does, GivesKept, inserted, of_rows, placed_rows, removed_rows, wanted, refused, reply_of, source, target}
-use Rattle.sql_exec.specs.declared.replies.SqlReply.TheVariants as reply
+use Rattle.sql_database.specs.Answers.{Answer, refused}
+use Rattle.sql_exec.specs.Answer.{Does, GivesKept, inserted, of_rows, placed_rows, removed_rows, wanted, reply_of, source, target}
+use Rattle.sql_database.specs.declared.replies.SqlReply.TheVariants as reply
 use Rattle.sql_exec.specs.Changes.{first_repeat, is_same, keys_of, placing}
 use Rattle.sql_exec.specs.Totals.{is_null}
-use Rattle.sql_exec.specs.Database.{HasOtherKey, IsNeedless, IsWhole, Without, whole}
+use Rattle.sql_exec.specs.Whole.{HasOtherKey, IsNeedless, IsWhole, Without, whole}
 use Rattle.sql_exec.specs.Kept.{each, if_kept, kept, set_all, values_in, with_both}
 
 unkept : (row : List Value) (r : Result Truth Overflow) (more : Result (List (List Value)) Overflow) → r ≡ Ok No → with_both (λ t ms. if_kept row t ++ ms) r more ≡ more

@@ -22,23 +22,18 @@ use Rattle.sql_meaning.specs.Names.{table_named, scope}
 use Rattle.sql_meaning.specs.Places.{placed_action}
 use Rattle.sql_meaning.specs.Refusals.{refusal}
 use Rattle.sql_meaning.specs.Terms.{term}
-use Rattle.sql_exec.specs.declared.changes.Change.{Change}
-use Rattle.sql_exec.specs.declared.replies.SqlReply.{SqlReply}
-use Rattle.sql_exec.specs.declared.replies.SqlReply.TheVariants as reply
-use Rattle.sql_exec.specs.declared.replies.Outcome.{Outcome}
-use Rattle.sql_exec.specs.declared.replies.Outcome.TheVariants as outcome
+use Rattle.sql_database.specs.declared.changes.Change.{Change}
+use Rattle.sql_database.specs.declared.replies.SqlReply.{SqlReply}
+use Rattle.sql_database.specs.declared.replies.SqlReply.TheVariants as reply
+use Rattle.sql_exec.specs.declared.outcomes.Outcome.{Outcome}
+use Rattle.sql_exec.specs.declared.outcomes.Outcome.TheVariants as outcome
 use Rattle.sql_exec.specs.declared.rows.RangeRows.{RangeRows}
-use Rattle.sql_exec.specs.Changes.{placing, removal, first_repeat, keys_of, creation}
+use Rattle.sql_database.specs.Answers.{Answer, rows, refused, wants}
+use Rattle.sql_database.specs.Catalog.{creation}
+use Rattle.sql_exec.specs.Changes.{placing, removal, first_repeat, keys_of}
 use Rattle.sql_exec.specs.Kept.{each, kept, values_in, set_all, pairs}
 use Rattle.sql_exec.specs.Order.{IsOrdered, limited}
 use Rattle.sql_exec.specs.Totals.{is_null, total_of}
-
--- Rows; a refusal; or the changes that are wanted, how many rows they are, and the first key that is there
--- already.
-pub data Answer : Type 0 where
-  rows : List (List Value) → Answer
-  refused : SqlReply → Answer
-  wants : List Change → ℕ → Option Value → Answer
 
 abbrev pub reply_of : Refusal → SqlReply
 reply_of (refusals.TableExists t) = reply.TableExists t
@@ -143,17 +138,6 @@ outcome_of (rows rs) = outcome.Rows rs
 outcome_of (refused r) = outcome.Refused r
 outcome_of (wants cs n None) = outcome.Changes cs
 outcome_of (wants cs n (Some k)) = outcome.Refused (reply.Duplicate k)
-
--- what a statement is evaluated for: BEGIN, COMMIT and ROLLBACK are not
-abbrev pub IsEvaluated : Stmt → Type 0
-IsEvaluated (stmt.Create s) = Unit {0}
-IsEvaluated (stmt.Insert t names tuples) = Unit {0}
-IsEvaluated (stmt.Update t sets test) = Unit {0}
-IsEvaluated (stmt.Delete t test) = Unit {0}
-IsEvaluated (stmt.Select q) = Unit {0}
-IsEvaluated stmt.Begin = ⊥
-IsEvaluated stmt.Commit = ⊥
-IsEvaluated stmt.Rollback = ⊥
 
 -- an outcome that comes from an answer of the kind that is asked
 pub record ComesFrom (Is : Answer → Type 0) (o : Outcome) : Type 0 where

@@ -1,19 +1,15 @@
--- Changes of tables, and the keys that they need.
-use Rattle.std.specs.Prelude.{ℕ, Bool, ◌&&◌, nat_le, if◌then◌else◌, List, [], ◌∷◌, ◌++◌, map, length, codes, pos, Option, Some, None, Result, Ok, Err, flat_map}
+-- Changes of rows, and the keys that they need.
+use Rattle.std.specs.Prelude.{ℕ, Bool, ◌&&◌, nat_le, if◌then◌else◌, List, [], ◌∷◌, ◌++◌, map, length, Option, Some, None, Result, Ok, Err}
 use Rattle.std.specs.List.{list_any}
 use Rattle.std.specs.Ordering.{is_eq}
-use Rattle.sql_values.specs.declared.values.Sort.{Sort}
-use Rattle.sql_values.specs.declared.values.Sort.TheVariants as sort
 use Rattle.sql_values.specs.declared.values.Value.{Value}
-use Rattle.sql_values.specs.declared.values.Value.TheVariants.{Int, Text}
-use Rattle.sql_values.specs.declared.schemas.Column.{Column}
 use Rattle.sql_values.specs.declared.schemas.Schema.{Schema}
 use Rattle.sql_values.specs.Order.{value_cmp}
 use Rattle.row_codec.specs.declared.TooLarge.{TooLarge}
 use Rattle.row_codec.specs.declared.keys.TheConstants.{LONGEST_KEY}
 use Rattle.row_codec.specs.Keys.{key_bytes}
 use Rattle.row_codec.specs.Records.{fits_record, key_cell}
-use Rattle.sql_exec.specs.declared.changes.Change.{Change}
+use Rattle.sql_database.specs.declared.changes.Change.{Change}
 
 -- the limit of a key
 abbrev pub fits_key : List ℕ → Bool
@@ -41,18 +37,3 @@ first_repeat before (k ∷ ks) = if list_any (is_same k) before then Some k else
 
 abbrev pub keys_of : ℕ → List (List Value) → List Value
 keys_of key rows = map (key_cell key) rows
-
-abbrev pub sort_number : Sort → Value
-sort_number sort.Int = Int (pos 1)
-sort_number sort.Text = Int (pos 2)
-
-abbrev pub column_cells : Column → List Value
-column_cells c = Text c.name ∷ (sort_number c.sort ∷ [])
-
--- A table's schema as a row of the catalog: its name, its key's place, and the name and sort of each column.
-abbrev pub schema_row : Schema → List Value
-schema_row s = Text s.table ∷ (Int (pos s.key) ∷ flat_map column_cells s.columns)
-
--- the change that makes a table stands under a word that no table has for its name
-abbrev pub creation : Schema → Change
-creation s = record { table = codes "table"; key = s.table; row = Some (schema_row s) }

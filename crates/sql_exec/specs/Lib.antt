@@ -1,9 +1,8 @@
 pub mod Answer
-pub mod Applied
 pub mod Changes
-pub mod Database
 pub mod Extremes
 pub mod Kept
 pub mod Order
 pub mod Seen
 pub mod Totals
+pub mod Whole

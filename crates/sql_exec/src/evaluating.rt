@@ -1,18 +1,20 @@
 ghost use Rattle.std.specs.Prelude.{◌≡◌, ◌∷◌, [], IfOk, None};
 ghost use Rattle.std.specs.Option.{option_copied};
-ghost use Rattle.sql_exec.specs.Answer.{Answers, ComesFrom, Does, IsAct, IsEvaluated, deletes, inserts, on_target, outcome_of, source, updates, wants};
+ghost use Rattle.sql_exec.specs.Answer.{Answers, ComesFrom, Does, IsAct, deletes, inserts, on_target, outcome_of, source, updates};
+ghost use Rattle.sql_database.specs.Statements.{IsEvaluated};
+ghost use Rattle.sql_database.specs.Answers.{wants};
 ghost use Rattle.sql_exec.specs.Answer as spec;
-ghost use Rattle.sql_exec.specs.Changes.{creation};
+ghost use Rattle.sql_database.specs.Catalog.{creation};
 ghost use Rattle.sql_meaning.specs.Names.{scope};
 ghost use Rattle.sql_meaning.specs.Places.{placed_action};
 
-use crate::changes::{Change, Changes, create_table};
 use crate::keeping::pair_rows;
-use crate::replies::{Outcome, SqlReply};
+use crate::outcomes::Outcome;
 use crate::rows::RangeRows;
 use crate::selecting::select;
 use crate::writing::{delete, insert, update};
 use rm_base::WantOfMemory;
+use sql_database::{Change, Changes, SqlReply, create_table};
 use sql_meaning::{Action, Refusal, Resolved, ResolvedRows, SetPlaces, resolve, table_named};
 use sql_statements::Stmt;
 use sql_values::{Rows, Schema, Schemas};

@@ -1,4 +1,5 @@
-ghost use Rattle.sql_exec.specs.Database.{FilteredIsWithout, IsWhole, JoinedIsWithout, OutsideIsNeedless};
+ghost use Rattle.sql_database.specs.Rules.{AnswerRules};
+ghost use Rattle.sql_exec.specs.Whole.{AnswersOver, FilteredIsWithout, IsWhole, JoinedIsWithout, OutsideIsNeedless};
 ghost use Rattle.sql_exec.specs.Extremes.{MaxIsGreatest, MinIsLeast};
 
 /// An outcome over rows that lack only what the statement does not need is the answer over whole tables, and
@@ -18,4 +19,12 @@ pub fn whole_laws()
 pub fn total_laws()
     ensures min { MinIsLeast }
     ensures max { MaxIsGreatest }
+{}
+
+/// A statement that is evaluated has one answer over a database: none refuses what is done or takes a
+/// transaction along, databases with the same content answer the same, and changes that are wanted are a
+/// write's and fit the tables. It does nothing when it is run.
+#[tactic(auto, using(crate::proofs::AnswerLaws::rules))]
+pub fn answer_laws()
+    ensures { AnswerRules AnswersOver }
 {}

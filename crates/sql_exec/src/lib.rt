@@ -7,14 +7,13 @@ mod keeping;
 mod keys;
 mod laws;
 mod ordering;
-mod replies;
+mod outcomes;
 mod rows;
 mod selecting;
 mod totals;
 mod writing;
 
-pub use changes::{Change, Changes};
 pub use evaluating::eval;
-pub use laws::{total_laws, whole_laws};
-pub use replies::{Outcome, SqlReply};
+pub use laws::{answer_laws, total_laws, whole_laws};
+pub use outcomes::Outcome;
 pub use rows::{RangeRows, RowLists};

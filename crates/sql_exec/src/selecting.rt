@@ -7,9 +7,10 @@ ghost use Rattle.sql_meaning.specs.Terms.{term};
 
 use crate::keeping::{kept, values_of};
 use crate::ordering::{cut, ordered};
-use crate::replies::{Outcome, SqlReply};
+use crate::outcomes::Outcome;
 use crate::totals::totals_of;
 use rm_base::WantOfMemory;
+use sql_database::SqlReply;
 use sql_meaning::{OrderPlaces, Output, Resolved, ResolvedList, Totals};
 use sql_values::{Overflow, Row, Rows};
 use std::alloc::Global;

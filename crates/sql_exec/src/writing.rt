@@ -1,18 +1,20 @@
 ghost use Rattle.std.specs.Prelude.{◌≡◌, IfOk, length, slice_set};
 ghost use Rattle.std.specs.List.{list_any};
 ghost use Rattle.row_codec.specs.Records.{key_cell};
-ghost use Rattle.sql_exec.specs.Answer.{deletes, inserted, inserts, outcome_of, placed_rows, updates, wants};
+ghost use Rattle.sql_exec.specs.Answer.{deletes, inserted, inserts, outcome_of, placed_rows, updates};
+ghost use Rattle.sql_database.specs.Answers.{wants};
 ghost use Rattle.sql_exec.specs.Changes.{first_repeat, keys_of, placing, removal};
 ghost use Rattle.sql_exec.specs.Kept.{each, set_all};
 ghost use Rattle.sql_exec.specs.Totals as totals;
 
-use crate::changes::{Changes, place_row, remove_row};
+use crate::changes::{place_row, remove_row};
 use crate::keeping::{all_values, kept};
 use crate::keys::repeat;
-use crate::replies::{Outcome, SqlReply};
+use crate::outcomes::Outcome;
 use crate::totals::is_null;
 use rm_base::{Duplicate, WantOfMemory};
 use row_codec::TooLarge;
+use sql_database::{Changes, SqlReply};
 use sql_meaning::{Resolved, ResolvedRows, SetPlaces};
 use sql_values::{Overflow, Row, Rows, Schema, Value};
 use std::alloc::Global;

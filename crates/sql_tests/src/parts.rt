@@ -1,6 +1,6 @@
 //! The parts of a statement that say what it is run on.
 ghost use Rattle.std.specs.Prelude.{IsTrue};
-ghost use Rattle.sql_exec.specs.Answer.{IsEvaluated};
+ghost use Rattle.sql_database.specs.Statements.{IsEvaluated};
 
 use rm_base::Name;
 use sql_statements::{Join, Stmt};

@@ -1,11 +1,12 @@
 //! A database of plain lists, and statements over all rows of its tables.
-ghost use Rattle.sql_exec.specs.Answer.{IsEvaluated};
+ghost use Rattle.sql_database.specs.Statements.{IsEvaluated};
 
 use crate::parts::{is_evaluated, left, made, right};
 use crate::table::Table;
 use reply_text::reply_text;
 use rm_base::{Duplicate, Name, Text, WantOfMemory};
-use sql_exec::{Change, Changes, Outcome, RangeRows, RowLists, SqlReply, eval};
+use sql_database::{Change, Changes, SqlReply};
+use sql_exec::{Outcome, RangeRows, RowLists, eval};
 use sql_front::parse;
 use sql_statements::Stmt;
 use sql_values::{Rows, Schema, Schemas};

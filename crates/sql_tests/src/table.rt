@@ -1,6 +1,6 @@
 //! A table as a plain list of rows by their keys.
 use rm_base::{Bytes, Duplicate, Name, WantOfMemory};
-use sql_exec::Change;
+use sql_database::Change;
 use sql_values::{Row, Rows};
 use std::alloc::Global;
 

@@ -7,8 +7,9 @@ use Rattle.sql_values.specs.declared.schemas.Schema.{Schema}
 use Rattle.sql_values.specs.declared.values.Sort.TheVariants as sort
 use Rattle.sql_values.specs.declared.values.Value.TheVariants.{Int}
 use Rattle.row_codec.specs.Keys.{key_bytes, rank}
-use Rattle.sql_exec.specs.declared.changes.Change.{Change}
-use Rattle.sql_exec.specs.Applied.{empty, with_table, with_row}
+use Rattle.sql_database.specs.declared.changes.Change.{Change}
+use Rattle.sql_database.specs.Database.{empty}
+use Rattle.sql_database.specs.Applied.{with_table, with_row}
 use Rattle.sql_engine.specs.Sound.{CanChange}
 use Rattle.paged_tables.specs.Content.{HoldsNow}
 use Rattle.paged_tables.proofs.tests.with_row.Goals as goal

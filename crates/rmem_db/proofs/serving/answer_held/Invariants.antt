@@ -1,5 +1,5 @@
 use Rattle.std.proofs.Common.{◌≡◌, ◌≤◌, ℕ, List, Option, length}
-use Rattle.session_state.specs.Serving.{TableState}
+use Rattle.table_machine.specs.Serving.{TableState}
 use Rattle.rmem_db.specs.Serving.{Serves}
 use Rattle.rmem_db.specs.Session.{Stands}
 use Rattle.rmem_db.proofs.serving.answer_held.Given as goal

@@ -1,6 +1,6 @@
 use Rattle.std.proofs.Common.{arith}
-use Rattle.sql_exec.specs.Applied.{empty}
-use Rattle.session_state.specs.Serving.{at_rest}
+use Rattle.sql_database.specs.Database.{empty}
+use Rattle.table_machine.specs.Serving.{at_rest}
 use Rattle.rmem_db.specs.Session.{Stands}
 use Rattle.rmem_db.proofs.ServingLaws.{IsCutOff-start, Serves-start}
 use Rattle.rmem_db.proofs.serving.serve_over.Goals as goal

@@ -1,8 +1,9 @@
 use Rattle.std.proofs.Common.{List, arith, fold, take, Result, IsOk, refl, sym, subst}
 use Rattle.std.specs.List.{AllByRecursion}
 use Rattle.sql_values.specs.declared.schemas.Schema.{Schema}
-use Rattle.sql_exec.specs.declared.changes.Change.{Change}
-use Rattle.sql_exec.specs.Applied.{Database, with_row}
+use Rattle.sql_database.specs.declared.changes.Change.{Change}
+use Rattle.sql_database.specs.Database.{Database}
+use Rattle.sql_database.specs.Applied.{with_row}
 use Rattle.sql_engine.specs.declared.store.SpaceFull.{SpaceFull}
 use Rattle.sql_engine.specs.Made.{Suits}
 use Rattle.sql_engine.proofs.ListLemmas.{all_here, fold_front}

@@ -1,6 +1,7 @@
 use Rattle.std.proofs.Common.{fold, take}
 use Rattle.std.specs.List.{AllByRecursion}
-use Rattle.sql_exec.specs.Applied.{Database, with_row}
+use Rattle.sql_database.specs.Database.{Database}
+use Rattle.sql_database.specs.Applied.{with_row}
 use Rattle.sql_engine.specs.Made.{Suits}
 use Rattle.sql_engine.proofs.making.make_changes.Given as goal
 

@@ -1,5 +1,5 @@
 use Rattle.std.proofs.Common.{◌≡◌, take}
-use Rattle.sql_exec.specs.Applied.{Database}
+use Rattle.sql_database.specs.Database.{Database}
 use Rattle.sql_engine.specs.Read as spec
 use Rattle.sql_engine.proofs.reading.right_rows.Given as goal
 

@@ -1,5 +1,5 @@
 use Rattle.std.proofs.Common.{rules, ap}
-use Rattle.sql_exec.specs.declared.replies.Outcome.TheVariants as outcome
+use Rattle.sql_exec.specs.declared.outcomes.Outcome.TheVariants as outcome
 use Rattle.sql_exec.proofs.ActLaws.{refuses}
 use Rattle.sql_exec.proofs.evaluating.eval.Goals as goal
 

@@ -1,6 +1,6 @@
 use Rattle.std.proofs.Common.{rules, refl, ap}
-use Rattle.sql_exec.specs.declared.replies.Outcome.TheVariants as outcome
-use Rattle.sql_exec.specs.Answer.{rows}
+use Rattle.sql_exec.specs.declared.outcomes.Outcome.TheVariants as outcome
+use Rattle.sql_database.specs.Answers.{rows}
 use Rattle.sql_exec.specs.Order.{limited}
 use Rattle.sql_exec.proofs.selecting.show_all.Goals as goal
 

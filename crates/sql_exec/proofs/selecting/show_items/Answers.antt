@@ -1,7 +1,7 @@
 use Rattle.std.proofs.Common.{rules, ◌≡◌, List, Result, Ok, Err, refl, ap, sym, ◌∙◌}
 use Rattle.sql_values.specs.declared.arithmetic.Overflow.{Overflow}
 use Rattle.sql_values.specs.declared.values.Value.{Value}
-use Rattle.sql_exec.specs.declared.replies.Outcome.TheVariants as outcome
+use Rattle.sql_exec.specs.declared.outcomes.Outcome.TheVariants as outcome
 use Rattle.sql_exec.specs.Answer.{rows_or_overflow, outcome_of}
 use Rattle.sql_exec.specs.Kept.{each, values_in}
 use Rattle.sql_exec.proofs.selecting.show_items.Goals as goal

@@ -1,7 +1,7 @@
 use Rattle.std.proofs.Common.{sym, subst}
 use Rattle.page_store.specs.Stored.{Stored, pages_of, given_back}
 use Rattle.page_store.specs.Opening.{opened}
-use Rattle.sql_exec.specs.Applied.{empty}
+use Rattle.sql_database.specs.Database.{empty}
 use Rattle.paged_tables.specs.Content.{Holds}
 use Rattle.paged_tables.proofs.HoldLaws.{holds_empty}
 use Rattle.paged_tables.proofs.tables.PagedTables.new.Goals as goal

@@ -4,7 +4,7 @@ use Rattle.page_store.specs.Stored.{Stored, pages_of}
 use Rattle.tree_store.specs.Forest.{IsFull}
 use Rattle.sql_values.specs.declared.schemas.Schema.{Schema}
 use Rattle.sql_engine.specs.Sound.{IsPlaced}
-use Rattle.paged_tables.specs.Content.{IsFullTable}
+use Rattle.paged_tables.specs.Content.{IsFullNow, IsFullTable}
 use Rattle.paged_tables.proofs.TableLaws.{held, on_ok, on_err, err_gives, same_pair, found_entry, entry_root, change_made}
 use Rattle.paged_tables.proofs.tables.PagedTablesTableStore.change.Goals as goal
 
@@ -57,3 +57,8 @@ returns-clause-full c =
     on_err c.done.result c.in_ok-answer.answer (IsFullTable (pages_of c.args.self.now) table new) c.done.ensures.1
     (err_gives c.in_ok-answer.answer (IsFull new c.in-Some.root) _
     (λ full. subst (λ (s : Stored). IsFullTable (pages_of s) table new) c.self.view_is (d, h, found.0, found.1, subst (IsFull new) pair.1 full)) c.in_ok-answer.ensures.full)
+
+pub returns-clause-room : goal.returns-clause-room
+returns-clause-room c =
+    on_err c.done.result c.in_ok-answer.answer (IsFullNow c.change_tree.new.store) c.done.ensures.1
+    (err_gives c.in_ok-answer.answer (IsFull (pages_of c.change_tree.new.store) c.in-Some.root) _ (λ full. (c.in-Some.root, full)) c.in_ok-answer.ensures.full)

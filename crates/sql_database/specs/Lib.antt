@@ -1,0 +1,9 @@
+pub mod Database
+pub mod Catalog
+pub mod Applied
+pub mod Statements
+pub mod Replies
+pub mod Answers
+pub mod Fitting
+pub mod Rules
+pub mod Laws

@@ -1,0 +1,12 @@
+pub mod RunLaws
+pub mod CommitLaws
+pub mod StepLaws
+pub mod ReplyLaws
+pub mod Alone
+pub mod InTurn
+pub mod TurnLaws
+pub mod ServingLaws
+pub mod SerialLaws
+pub mod CommitReplies
+pub mod KeyLaws
+pub mod OverlapLaws

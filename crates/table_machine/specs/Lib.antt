@@ -1,0 +1,11 @@
+pub mod Room
+pub mod Language
+pub mod Machine
+pub mod Conflicts
+pub mod Moves
+pub mod Replies
+pub mod Steps
+pub mod Runs
+pub mod Laws
+pub mod Serving
+pub mod Silent
