@@ -1,0 +1,4 @@
+pub mod Numbered
+pub mod Latch
+pub mod Entry
+pub mod Uses
