@@ -1,0 +1,16 @@
+pub mod Beside
+pub mod Works
+pub mod Accesses
+pub mod Losses
+pub mod Replies
+pub mod Homes
+pub mod EachMove
+pub mod MoveFrames
+pub mod Events
+pub mod Memory
+pub mod EveryEvent
+pub mod Promises
+pub mod PlanRun
+pub mod TakeoverRun
+pub mod FetchRun
+pub mod Folding

@@ -1,0 +1,11 @@
+pub mod History
+pub mod Fold
+pub mod Page
+pub mod Mode
+pub mod Moves
+pub mod Cluster
+pub mod Coherence
+pub mod Frame
+pub mod Runs
+pub mod Invariant
+pub mod AllPages
