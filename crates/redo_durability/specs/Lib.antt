@@ -1,0 +1,4 @@
+pub mod Store
+pub mod Machine
+pub mod Laws
+pub mod Examples
