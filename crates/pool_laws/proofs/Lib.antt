@@ -1,0 +1,14 @@
+pub mod Fill
+pub mod LocalCalls
+pub mod Parts
+pub mod Relink
+pub mod Networks
+pub mod Joined
+pub mod Sends
+pub mod HomeCalls
+pub mod StorageCalls
+pub mod Nodes
+pub mod Takeovers
+pub mod EveryEvent
+pub mod Examples
+pub mod Renewal
