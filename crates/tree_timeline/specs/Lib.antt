@@ -1,0 +1,11 @@
+pub mod Types
+pub mod Fences
+pub mod Ranges
+pub mod Steps
+pub mod Timeline
+pub mod Walks
+pub mod Found
+pub mod Searching
+pub mod Progress
+pub mod Example
+pub mod Loose
