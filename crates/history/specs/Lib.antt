@@ -1,0 +1,15 @@
+pub mod Places
+pub mod Timelines
+pub mod Databases
+pub mod Fitting
+pub mod Languages
+pub mod Machines
+pub mod Sound
+pub mod Clusters
+pub mod Events
+pub mod Invariant
+pub mod Laws
+pub mod Incidents
+pub mod Takeovers
+pub mod SmallLanguage
+pub mod SmallRun
