@@ -1,0 +1,4 @@
+pub mod Effects
+pub mod Fields
+pub mod Plans
+pub mod Stamping
