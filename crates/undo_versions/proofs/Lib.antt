@@ -1,0 +1,5 @@
+pub mod BodyLaws
+pub mod ChainExample
+pub mod ChainLaws
+pub mod ReadLaws
+pub mod StepLaws
