@@ -1,0 +1,45 @@
+-- Stated: a slab as its slots, which of them are taken, and its incarnation while it is up.
+use Rattle.std.specs.Prelude.{◌≡◌, ◌<◌, ◌+◌, ℕ, Bool, true, false, List, length, Some, slice_get, slice_set, replicate, nat_le, nat_lt, ◌&&◌}
+use Rattle.page_image.specs.Image.{Image}
+use Rattle.node_model.specs.Slots.{Slots, address_number}
+
+-- what each slot holds, and whether it is taken
+pub record SlabState : Type 0 where
+  pub id : ℕ
+  pub incarnation : ℕ
+  pub up : Bool
+  pub pages : List Image
+  pub taken : List Bool
+
+-- each slot is taken or free
+abbrev pub IsSlab : SlabState → Type 0
+IsSlab S = length S.taken ≡ length S.pages
+
+-- slot s holds the image
+abbrev pub written : SlabState → ℕ → Image → SlabState
+written S s image = record { id = S.id; incarnation = S.incarnation; up = S.up; pages = slice_set S.pages s image; taken = S.taken }
+
+abbrev pub took : SlabState → ℕ → SlabState
+took S s = record { id = S.id; incarnation = S.incarnation; up = S.up; pages = S.pages; taken = slice_set S.taken s true }
+
+abbrev pub gave_back : SlabState → ℕ → SlabState
+gave_back S s = record { id = S.id; incarnation = S.incarnation; up = S.up; pages = S.pages; taken = slice_set S.taken s false }
+
+abbrev pub crashed : SlabState → SlabState
+crashed S = record { id = S.id; incarnation = S.incarnation; up = false; pages = S.pages; taken = S.taken }
+
+-- up again in its next incarnation, with every slot free
+abbrev pub restarted : SlabState → SlabState
+restarted S = record { id = S.id; incarnation = S.incarnation + 1; up = true; pages = S.pages; taken = replicate (length S.taken) false }
+
+-- the slab is a part of one memory of slots by address. While it is up its slots hold what that memory has at their
+-- addresses, which are not lost; the addresses of its earlier incarnations are lost, and while it is down its last ones too
+pub record IsPart (S : SlabState) (M : Slots) : Type 0 where
+  pub holds : S.up ≡ true → (s : ℕ) (image : Image) → slice_get S.pages s ≡ Some image → M.holds (address_number S.id S.incarnation s) ≡ image
+  pub live : S.up ≡ true → (s : ℕ) → s < length S.pages → M.dead (address_number S.id S.incarnation s) ≡ false
+  pub past : (i s : ℕ) → i < S.incarnation → s < length S.pages → M.dead (address_number S.id i s) ≡ true
+  pub down : S.up ≡ false → (s : ℕ) → s < length S.pages → M.dead (address_number S.id S.incarnation s) ≡ true
+
+-- the addresses that the slab gives out in its incarnation
+abbrev pub spans : SlabState → ℕ → Bool
+spans S a = nat_le (address_number S.id S.incarnation 0) a && nat_lt a (address_number S.id S.incarnation 65536)

@@ -1,0 +1,11 @@
+//! Slabs: the remote memory of pages, in slots that are taken and given back.
+#![tactic(auto)]
+
+mod laws;
+mod slab;
+mod slots;
+#[cfg(test)]
+mod tests;
+
+pub use laws::slab_laws;
+pub use slab::{Slab, SlabNo};
