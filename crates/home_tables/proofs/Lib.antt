@@ -1,0 +1,6 @@
+pub mod Numbers
+pub mod Idle
+pub mod Entries
+pub mod Marks
+pub mod Tables
+pub mod Order
