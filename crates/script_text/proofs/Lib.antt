@@ -1,0 +1,15 @@
+pub mod NumberLaws
+pub mod NameLaws
+pub mod WordLaws
+pub mod LineLaws
+pub mod OrderLaws
+pub mod Found
+pub mod WordedSound
+pub mod WordedComplete
+pub mod StatementLaws
+pub mod FormLaws
+pub mod MakingLaws
+pub mod ScriptLaws
+pub mod HeadLaws
+pub mod WholeLaws
+pub mod FitLaws

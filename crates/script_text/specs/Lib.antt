@@ -1,0 +1,15 @@
+pub mod Lines
+pub mod Words
+pub mod Numbers
+pub mod Names
+pub mod Verbs
+pub mod Forms
+pub mod Statements
+pub mod Grammar
+pub mod Orders
+pub mod Built
+pub mod Boots
+pub mod Heads
+pub mod Reading
+pub mod Scripts
+pub mod Faults
