@@ -1,5 +1,8 @@
 ghost use Rattle.std.specs.Prelude.{◌≡◌, [], ◌∷◌, ◌++◌, length, ◌<◌, ◌^◌, slice_get, IfOk, OnOk, OnErr, IsTrue, ◌↔◌};
-ghost use Rattle.std.specs.Option.{option_copied};
+ghost use Rattle.std.specs.List.{remove};
+ghost use Rattle.std.specs.Option.{option_copied, option_copied_mut, option_to_list};
+ghost use types.Logic.{sem};
+ghost use Rattle.rm_base.specs.Lending.{LendsItem};
 
 use crate::errors::WantOfMemory;
 use std::alloc::Global;
@@ -67,6 +70,30 @@ impl<T> Items<T> {
         ensures { option_copied result ≡ slice_get self.now at }
     {
         self.items.get(at)
+    }
+
+    /// The item at the place, to write to. What is written stands at the place; all else stays.
+    pub fn get_mut(&mut self, at: usize) -> Option<&mut T>
+        ensures* writes_back { sem 𝓛 (LendsItem T.row self.entry at result) }
+        ensures value { option_copied_mut result ≡ slice_get self.old at }
+    {
+        self.items.get_mut(at)
+    }
+
+    /// Takes the last item off.
+    pub fn pop(&mut self) -> Option<T>
+        ensures { self.old ≡ self.new ++ option_to_list result }
+    {
+        self.items.pop()
+    }
+
+    /// Takes the item at the place out; those behind it move up.
+    pub fn remove(&mut self, at: usize) -> T
+        requires { at < length self.old }
+        ensures value { slice_get self.old at ≡ Some result }
+        ensures rest { self.new ≡ remove self.old at }
+    {
+        self.items.remove(at)
     }
 }
 

@@ -8,6 +8,7 @@ mod fields;
 mod identifiers;
 mod items;
 mod key_range;
+mod limits;
 mod names;
 mod places;
 #[cfg(test)]
