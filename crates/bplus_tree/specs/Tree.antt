@@ -1,5 +1,6 @@
 -- A tree of keys over pages. Pages are a function of their numbers, whoever keeps them.
 use Rattle.std.specs.Prelude.{◌≡◌, ◌≢◌, ◌≤◌, ◌<◌, ℕ, zero, suc, Bool, true, false, List, [], ◌∷◌, ◌++◌, length, map, filter, slice_get, Option, Some, None, nat_eq, ⊤}
+use Rattle.rm_base.specs.declared.limits.TheConstants.{MAX_KEY_BYTES}
 use Rattle.std.specs.List.{AllByRecursion, IsDistinct}
 use Rattle.std.specs.declared.cmp.Ordering.TheVariants.{Less, Greater}
 use Rattle.page_image.specs.declared.kind.Kind.{Kind}
@@ -8,7 +9,6 @@ use Rattle.page_image.specs.Image.{Image}
 use Rattle.page_view.specs.Inner.{InnerItem, inner_bytes, IsInner}
 use Rattle.page_view.specs.Keys.{key_in, keys_of, key_cmp, Ascend, IsChildFor}
 use Rattle.page_view.specs.Leaf.{HoldsLeaf}
-use Rattle.page_view.specs.declared.leaf.TheConstants.{LONGEST_KEY}
 
 -- the keys of a part of a tree stand from a low bound on, where there is one, and below a high one
 abbrev pub NotBelow : Option (List ℕ) → List ℕ → Type 0
@@ -40,7 +40,7 @@ pub record IsInnerPage (im : Image) (page : ℕ) (level : ℕ) (entries : List I
   pub height : im.level ≡ level
   pub has : im.items ≡ map inner_bytes entries
   pub each : AllByRecursion IsInner entries
-  pub short : AllByRecursion (λ entry. length entry.key ≤ LONGEST_KEY) entries
+  pub short : AllByRecursion (λ entry. length entry.key ≤ MAX_KEY_BYTES) entries
   pub least : slice_get (keys_of im.items) 0 ≡ Some []
   pub ascend : Ascend (keys_of im.items)
 

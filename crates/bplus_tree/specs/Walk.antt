@@ -1,5 +1,6 @@
 -- How a search goes over pages that are handed to it: down to the leaf of a key, and along the leaves.
 use Rattle.std.specs.Prelude.{◌≡◌, ◌≤◌, ◌<◌, ◌+◌, ◌-◌, ◌==◌, ◌||◌, ◌&&◌, ◌⊎◌, ℕ, Bool, true, false, not, List, [], ◌∷◌, length, map, slice_get, Option, Some, None, nat_le, if◌then◌else◌, ⊤}
+use Rattle.rm_base.specs.declared.limits.TheConstants.{MAX_TREE_LEVEL}
 use Rattle.std.specs.List.{AllByRecursion}
 use Rattle.std.specs.Ordering.{is_lt, is_eq}
 use Rattle.page_image.specs.declared.kind.Kind.{Kind}
@@ -10,7 +11,7 @@ use Rattle.page_view.specs.Keys.{key_in, keys_of, key_cmp, Ascend, IsChildFor}
 use Rattle.page_view.specs.Leaf.{HoldsLeaf}
 use Rattle.bplus_tree.specs.declared.want.Want.{Want}
 use Rattle.bplus_tree.specs.declared.want.Want.TheVariants.{Need, Leaf, Finished}
-use Rattle.bplus_tree.specs.declared.want.TheConstants.{HIGHEST_LEVEL, MOST_STEPS}
+use Rattle.bplus_tree.specs.declared.want.TheConstants.{MOST_STEPS}
 
 -- a search for the keys from low to high: what it wants next, how many inner pages it went through, and
 -- from how many leaves it went on
@@ -89,8 +90,8 @@ is_last w im = (im.next == 0) || (reaches w.high im.items || (one_key w.low w.hi
 
 abbrev pub after_inner : Walking → Image → Walking → Type 0
 after_inner w im new =
-    (HIGHEST_LEVEL ≤ w.depth → new ≡ record w { want = Finished })
-    × (w.depth < HIGHEST_LEVEL → (child : ℕ) × LeadsTo im (sought w.low) child
+    (MAX_TREE_LEVEL ≤ w.depth → new ≡ record w { want = Finished })
+    × (w.depth < MAX_TREE_LEVEL → (child : ℕ) × LeadsTo im (sought w.low) child
     × (new ≡ record w { want = Need child; depth = w.depth + 1 }))
 
 abbrev pub after_leaf : Walking → Image → Walking

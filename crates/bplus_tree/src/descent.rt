@@ -3,9 +3,9 @@ ghost use Rattle.bplus_tree.specs.declared.want.Want.TheVariants as want;
 ghost use Rattle.bplus_tree.specs.Walk.{Walking, start, wanted, IsToRead, Told, Moves, pages_left};
 
 use crate::steps::child_for;
-use crate::want::{HIGHEST_LEVEL, Want};
+use crate::want::Want;
 use page_image::{Kind, Page};
-use rm_base::{Bytes, PageId};
+use rm_base::{Bytes, MAX_TREE_LEVEL, PageId};
 use std::marker::Model;
 
 /// The way from a tree's root down to the leaf that holds a key. It asks for one page after the other, and
@@ -69,7 +69,7 @@ impl Descent {
     {
         match page.kind() {
             Kind::Leaf => self.want = Want::Leaf(at),
-            _ if self.depth < HIGHEST_LEVEL => {
+            _ if self.depth < MAX_TREE_LEVEL => {
                 self.want = Want::Need(child_for(page, self.key.as_slice()));
                 self.depth += 1;
             }

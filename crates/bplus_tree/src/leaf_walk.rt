@@ -4,9 +4,9 @@ ghost use Rattle.bplus_tree.specs.declared.want.Want.TheVariants as want;
 ghost use Rattle.bplus_tree.specs.Walk.{Walking, start, wanted, IsToRead, IsLeafToRead, Told, Moves, pages_left};
 
 use crate::steps::{child_for, reaches};
-use crate::want::{HIGHEST_LEVEL, MOST_STEPS, Want};
+use crate::want::{MOST_STEPS, Want};
 use page_image::{Kind, Page};
-use rm_base::{Bytes, KeyRange, PageId};
+use rm_base::{Bytes, KeyRange, MAX_TREE_LEVEL, PageId};
 use std::cmp::Ordering;
 use std::marker::Model;
 
@@ -75,7 +75,7 @@ impl LeafWalk {
     {
         match page.kind() {
             Kind::Leaf => self.want = Want::Leaf(at),
-            _ if self.depth < HIGHEST_LEVEL => {
+            _ if self.depth < MAX_TREE_LEVEL => {
                 self.want = Want::Need(child_for(page, self.low()));
                 self.depth += 1;
             }

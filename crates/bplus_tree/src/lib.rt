@@ -15,4 +15,4 @@ pub use descent::Descent;
 pub use laws::search_laws;
 pub use leaf_walk::LeafWalk;
 pub use reading::can_be_read;
-pub use want::{HIGHEST_LEVEL, MOST_STEPS, Want};
+pub use want::{MOST_STEPS, Want};

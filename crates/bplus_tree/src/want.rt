@@ -3,9 +3,6 @@ ghost use Rattle.bplus_tree.specs.Walk as walk;
 
 use rm_base::PageId;
 
-/// The level of the highest page that a tree can have; leaves are at level 0.
-pub const HIGHEST_LEVEL: u8 = 8;
-
 /// How often a search goes on from a leaf at most: once less than there are pages.
 pub const MOST_STEPS: u32 = 32767;
 

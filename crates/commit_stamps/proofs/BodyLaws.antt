@@ -1,12 +1,12 @@
 -- For the proofs: fields of a page with a body, in its bytes.
 use Rattle.std.proofs.Common.{◌≡◌, ◌+◌, ◌-◌, ℕ, true, List, ◌++◌, drop, refl, sym, ◌∙◌, ap}
+use Rattle.rm_base.specs.declared.limits.TheConstants.{PAGE_BYTES, PAGE_HEADER_BYTES}
 use Rattle.std.specs.Prelude.{if◌then◌else◌}
 use Rattle.std.proofs.lemmas.List.{drop-drop}
 use Rattle.std.proofs.Math.Seq.{drop-append_seam}
 use Rattle.rm_base.specs.Fields.{number}
 use Rattle.page_image.specs.declared.kind.Kind.{Kind}
 use Rattle.page_image.specs.declared.kind.Kind.TheVariants.{Unmade, Meta, Slots, Stamps, Leaf, Inner, Undo}
-use Rattle.page_image.specs.declared.TheConstants.{PAGE_BYTES, HEADER_BYTES}
 use Rattle.page_image.specs.Image.{Image, is_slotted, has_body, zeros, free_of}
 use Rattle.page_image.specs.Layout.{header_bytes, header_of, rest_bytes, page_bytes, slot_bytes, packed}
 use Rattle.page_image.proofs.HeaderLaws.{length-header_bytes}
@@ -28,7 +28,7 @@ body_picked a b c Undo e = absurd cc
 
 body_is : (im : Image) → has_body im.kind ≡ true → rest_bytes im ≡ im.body
 unfolding rest_bytes
-body_is im e = body_picked (slot_bytes PAGE_BYTES im.items ++ (zeros (free_of im) ++ packed im.items)) im.body (zeros (PAGE_BYTES - HEADER_BYTES)) im.kind e
+body_is im e = body_picked (slot_bytes PAGE_BYTES im.items ++ (zeros (free_of im) ++ packed im.items)) im.body (zeros (PAGE_BYTES - PAGE_HEADER_BYTES)) im.kind e
 
 -- a field of a page's bytes is a field of its body
 pub field_is : (n at : ℕ) (im : Image) → has_body im.kind ≡ true → number n (drop (32 + at) (page_bytes im)) ≡ number n (drop at im.body)

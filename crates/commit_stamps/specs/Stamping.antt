@@ -1,19 +1,18 @@
 -- Stated: where a transaction's stamp stands, and which stamps a snapshot sees.
 use Rattle.std.specs.Prelude.{◌≡◌, ◌≤◌, ◌+◌, ◌-◌, ◌*◌, ◌/◌, ◌%◌, ℕ, Bool, true, false, drop, nat_eq, nat_le, if◌then◌else◌, ◌&&◌, not, Option, Some, None}
+use Rattle.rm_base.specs.declared.limits.TheConstants.{FIRST_STAMP_PAGE_ID, STAMPS_PER_PAGE}
 use Rattle.rm_base.specs.Fields.{number}
 use Rattle.page_image.specs.declared.kind.Kind.{Kind}
 use Rattle.page_image.specs.declared.kind.Kind.TheVariants.{Unmade, Meta, Slots, Stamps, Leaf, Inner, Undo}
 use Rattle.page_image.specs.Image.{Image}
-use Rattle.commit_stamps.specs.declared.stamps.TheConstants.{FIRST_STAMP_PAGE}
-use Rattle.page_view.specs.declared.stamps.TheConstants.{STAMPS_OF_A_PAGE}
 
 -- the page of a transaction's stamp: 508 to a page, from page 2 on, for the numbers from 1
 abbrev pub stamp_page : ℕ → ℕ
-stamp_page t = FIRST_STAMP_PAGE + (t - 1) / STAMPS_OF_A_PAGE
+stamp_page t = FIRST_STAMP_PAGE_ID + (t - 1) / STAMPS_PER_PAGE
 
 -- the stamp's place on it
 abbrev pub stamp_place : ℕ → ℕ
-stamp_place t = (t - 1) % STAMPS_OF_A_PAGE
+stamp_place t = (t - 1) % STAMPS_PER_PAGE
 
 -- the page is that of the transaction's stamp
 pub record IsStampPage (page : Image) (t : ℕ) : Type 0 where

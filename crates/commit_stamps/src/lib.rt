@@ -10,9 +10,9 @@ mod spelling;
 mod stamps;
 
 pub use counters::{last_stamp, next_number, page_count, undo_page};
-pub use plans::{LAST_TRANSACTION, TrxFull, begin_plan, commit_plan, free_plan};
+pub use plans::{TrxFull, begin_plan, commit_plan, free_plan};
 pub use slots::{Slot, push_pointer, slot_of};
-pub use stamps::{FIRST_STAMP_PAGE, publish, stamp_of, stamp_page, visible};
+pub use stamps::{publish, stamp_of, stamp_page, visible};
 
 #[cfg(test)]
 mod tests;

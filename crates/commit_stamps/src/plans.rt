@@ -15,12 +15,9 @@ use crate::spelling::{number_bytes, slot_bytes};
 use crate::stamps::{stamp_page, stamp_place};
 use page_image::{Kind, Page};
 use redo_record::{Plan, PlanKind, Record, Records};
-use rm_base::{PageId, PageList, SessionId, Stamp, TrxId, UndoPtr, WantOfMemory};
+use rm_base::{MAX_TRX_ID, PageId, PageList, SessionId, Stamp, TrxId, UndoPtr, WantOfMemory};
 use std::alloc::Global;
 use thiserror::Error;
-
-/// The last number that a transaction can get.
-pub const LAST_TRANSACTION: u64 = 520_192;
 
 /// Each number of a transaction is given.
 #[derive(Clone, Copy, Debug, PartialEq, Eq, Error)]
@@ -29,7 +26,7 @@ pub struct TrxFull;
 
 /// The pages that the begin of a transaction makes.
 fn made_for(t: TrxId) -> PageList
-    requires number { (1 ≤ t) × (t ≤ LAST_TRANSACTION) }
+    requires number { (1 ≤ t) × (t ≤ MAX_TRX_ID) }
     ensures pages { result ≡ spec.made_for t }
     ensures few { length result ≤ 1 }
 {
@@ -42,7 +39,7 @@ fn made_for(t: TrxId) -> PageList
 
 /// The page of the transaction's stamp.
 fn page_of(t: TrxId) -> PageId
-    requires number { (1 ≤ t) × (t ≤ LAST_TRANSACTION) }
+    requires number { (1 ≤ t) × (t ≤ MAX_TRX_ID) }
     ensures { result ≡ stamping.stamp_page t }
 {
     PageId::new(stamp_page(t) as u32).unwrap()
@@ -50,7 +47,7 @@ fn page_of(t: TrxId) -> PageId
 
 /// The records that make them.
 fn makes_for(alloc: Global, t: TrxId) -> Result<Records, WantOfMemory>
-    requires number { (1 ≤ t) × (t ≤ LAST_TRANSACTION) }
+    requires number { (1 ≤ t) × (t ≤ MAX_TRX_ID) }
     ensures { IfOk result (λ records. records ≡ spec.makes_for t) }
 {
     let mut records = Records::new(alloc);
@@ -121,7 +118,7 @@ fn begin_with(
     s: SessionId,
     t: TrxId,
 ) -> Result<Plan, WantOfMemory>
-    requires number { (1 ≤ t) × (t ≤ LAST_TRANSACTION) }
+    requires number { (1 ≤ t) × (t ≤ MAX_TRX_ID) }
     ensures { IfOk result (λ plan. plan ≡ spec.begin_plan meta.now slots.now s t) }
 {
     let mut pages = made_for(t);
@@ -142,7 +139,7 @@ fn begin_with(
 fn begin_changes(meta: &Page, slots: &Page, s: SessionId, t: TrxId)
     requires meta { IsMeta meta.now }
     requires slots { IsSlots slots.now }
-    requires few { t ≤ LAST_TRANSACTION }
+    requires few { t ≤ MAX_TRX_ID }
     ensures { Begins meta.now slots.now s t (spec.begin_records meta.now slots.now s t) }
 {
     keeps_rules(meta);
@@ -162,9 +159,9 @@ pub fn begin_plan(
     requires meta { IsMeta meta.now }
     requires slots { IsSlots slots.now }
     requires some { 1 ≤ (counters_of meta.now).next }
-    requires most { (counters_of meta.now).next ≤ LAST_TRANSACTION + 1 }
+    requires most { (counters_of meta.now).next ≤ MAX_TRX_ID + 1 }
     ensures full { IfOk result (λ answer.
-        IsErr answer ↔ ((counters_of meta.now).next ≡ LAST_TRANSACTION + 1)) }
+        IsErr answer ↔ ((counters_of meta.now).next ≡ MAX_TRX_ID + 1)) }
     ensures number { IfOk result (λ answer. IfOk answer (λ begun.
         begun.0 ≡ (counters_of meta.now).next)) }
     ensures plan { IfOk result (λ answer. IfOk answer (λ begun.
@@ -173,7 +170,7 @@ pub fn begin_plan(
         Begins meta.now slots.now s begun.0 begun.1.records)) }
 {
     let t = next_number(meta);
-    if t.number() > LAST_TRANSACTION {
+    if t.number() > MAX_TRX_ID {
         return Ok(Err(TrxFull));
     }
     begin_changes(meta, slots, s, t);

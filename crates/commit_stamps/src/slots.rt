@@ -7,7 +7,7 @@ ghost use Rattle.commit_stamps.specs.Effects.{Points};
 
 use crate::body::{keeps_rules, u16_in, u32_in, u64_in};
 use crate::spelling::pointer_bytes;
-use page_image::{HEADER_BYTES, Page};
+use page_image::Page;
 use redo_record::{Record, Records};
 use rm_base::{SessionId, TrxId, UndoPtr, WantOfMemory};
 use std::alloc::Global;

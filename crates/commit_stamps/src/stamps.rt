@@ -3,27 +3,24 @@ ghost use Rattle.std.specs.Prelude.{◌≡◌, ◌≤◌, ◌<◌};
 ghost use Rattle.commit_stamps.specs.Stamping as spec;
 
 use page_image::{Kind, Page};
-use page_view::{STAMPS_OF_A_PAGE, StampView};
-use rm_base::{Stamp, TrxId};
-
-/// The first page of stamps.
-pub const FIRST_STAMP_PAGE: u64 = 2;
+use page_view::StampView;
+use rm_base::{FIRST_STAMP_PAGE_ID, STAMPS_PER_PAGE, Stamp, TrxId};
 
 /// The number of the page that has the transaction's stamp.
 pub fn stamp_page(t: TrxId) -> u64
     requires { 1 ≤ t }
     ensures { result ≡ spec.stamp_page t }
 {
-    FIRST_STAMP_PAGE + (t.number() - 1) / STAMPS_OF_A_PAGE as u64
+    u64::from(FIRST_STAMP_PAGE_ID) + (t.number() - 1) / STAMPS_PER_PAGE as u64
 }
 
 /// The place of the transaction's stamp on its page.
 pub(crate) fn stamp_place(t: TrxId) -> usize
     requires { 1 ≤ t }
     ensures place { result ≡ spec.stamp_place t }
-    ensures bound { result < STAMPS_OF_A_PAGE }
+    ensures bound { result < STAMPS_PER_PAGE }
 {
-    ((t.number() - 1) % STAMPS_OF_A_PAGE as u64) as usize
+    ((t.number() - 1) % STAMPS_PER_PAGE as u64) as usize
 }
 
 /// Whether the page is that of the transaction's stamp.

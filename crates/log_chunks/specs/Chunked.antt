@@ -1,13 +1,13 @@
 -- Bytes cut into chunks of one size.
 use Rattle.std.specs.Prelude.{◌≡◌, ◌<◌, ℕ, List, length}
+use Rattle.rm_base.specs.declared.limits.TheConstants.{LOG_CHUNK_BYTES}
 use Rattle.std.specs.List.{AllByRecursion}
-use Rattle.log_chunks.specs.declared.TheConstants.{CHUNK_BYTES}
 
 -- each chunk is full
 abbrev pub AreFull : List (List ℕ) → Type 0
-AreFull chunks = AllByRecursion (λ chunk. length chunk ≡ CHUNK_BYTES) chunks
+AreFull chunks = AllByRecursion (λ chunk. length chunk ≡ LOG_CHUNK_BYTES) chunks
 
 -- full chunks, and an open one with room left
 pub record AreChunks (full : List (List ℕ)) (open_chunk : List ℕ) : Type 0 where
   pub each : AreFull full
-  pub room : length open_chunk < CHUNK_BYTES
+  pub room : length open_chunk < LOG_CHUNK_BYTES

@@ -2,13 +2,12 @@ ghost use Rattle.std.specs.Prelude.{◌≡◌, ◌≤◌, ◌<◌, ◌+◌, ◌*
 ghost use Rattle.std.specs.List.{concat};
 ghost use Rattle.log_chunks.specs.Chunked.{AreFull};
 
-use crate::CHUNK_BYTES;
 use crate::places::item_at;
-use rm_base::{Bytes, Items, WantOfMemory};
+use rm_base::{Bytes, Items, LOG_CHUNK_BYTES, WantOfMemory};
 use std::alloc::Global;
 use std::marker::Model;
 
-/// Bytes in chunks of `CHUNK_BYTES`, the last of which is open. Contracts see the bytes.
+/// Bytes in chunks of `LOG_CHUNK_BYTES`, the last of which is open. Contracts see the bytes.
 #[derive(Drop)]
 pub(crate) struct Chunks {
     full: Vec<Bytes>,
@@ -47,11 +46,11 @@ fn cut(alloc: Global, bytes: &[u8], full: &mut Vec<Bytes>) -> Result<Bytes, Want
     requires { AreFull full.old.items }
     ensures same { IfOk result (λ rest. concat full.new.items ++ rest ≡ concat full.old.items ++ bytes.now) }
     ensures each { AreFull full.new.items }
-    ensures room { IfOk result (λ rest. length rest < CHUNK_BYTES) }
+    ensures room { IfOk result (λ rest. length rest < LOG_CHUNK_BYTES) }
 {
     let mut rest = bytes;
-    while rest.len() >= CHUNK_BYTES {
-        let (chunk, more) = rest.split_at(CHUNK_BYTES);
+    while rest.len() >= LOG_CHUNK_BYTES {
+        let (chunk, more) = rest.split_at(LOG_CHUNK_BYTES);
         full.push(copied(alloc, chunk)?)?;
         rest = more;
     }
@@ -74,7 +73,7 @@ impl Chunks {
         ensures ok { OnOk result (self.new ≡ self.old ++ bytes.now) }
         ensures err { OnErr result (self.new ≡ self.old) }
     {
-        let room = CHUNK_BYTES - self.open.len();
+        let room = LOG_CHUNK_BYTES - self.open.len();
         if bytes.len() < room {
             return self.open.append(bytes);
         }
@@ -87,10 +86,10 @@ impl Chunks {
         Ok(())
     }
 
-    /// The bytes from `i * CHUNK_BYTES` on, as many as a chunk holds. None where there are none.
+    /// The bytes from `i * LOG_CHUNK_BYTES` on, as many as a chunk holds. None where there are none.
     pub fn get(&self, i: usize) -> Option<&[u8]>
-        ensures { MatchOption result (length self.now ≤ CHUNK_BYTES * i)
-            (λ chunk. chunk.now ≡ take CHUNK_BYTES (drop (CHUNK_BYTES * i) self.now)) }
+        ensures { MatchOption result (length self.now ≤ LOG_CHUNK_BYTES * i)
+            (λ chunk. chunk.now ≡ take LOG_CHUNK_BYTES (drop (LOG_CHUNK_BYTES * i) self.now)) }
     {
         if let Some(chunk) = item_at(self.full.as_slice(), i) {
             return Some(chunk.as_slice());

@@ -12,6 +12,3 @@ mod tests;
 pub use laws::store_laws;
 pub use reading::next_groups;
 pub use store::LogStore;
-
-/// The bytes of a chunk of the log.
-pub const CHUNK_BYTES: usize = 65_536;

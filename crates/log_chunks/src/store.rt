@@ -5,13 +5,12 @@ ghost use Rattle.redo_record.specs.Spelling.{log_bytes, Spells};
 ghost use Rattle.log_chunks.specs.Log.{GoesOn, AreLog, tail_of, answer_to, is_kept, longer, Appends};
 ghost use Rattle.log_chunks.specs.History.{append, fence, after};
 
-use crate::CHUNK_BYTES;
 use crate::chunks::Chunks;
 use crate::places::item_at;
 use crate::reading::next_groups;
 use message_model::Appended;
 use redo_record::Group;
-use rm_base::{Epoch, Lsn, WantOfMemory};
+use rm_base::{Epoch, LOG_CHUNK_BYTES, Lsn, WantOfMemory};
 use std::alloc::Global;
 use std::marker::Model;
 
@@ -123,10 +122,10 @@ impl LogStore {
         }
     }
 
-    /// The bytes of the log from `i * CHUNK_BYTES` on, as many as a chunk holds. None where there are none.
+    /// The bytes of the log from `i * LOG_CHUNK_BYTES` on, as many as a chunk holds. None where there are none.
     pub fn chunk(&self, i: usize) -> Option<&[u8]>
-        ensures { MatchOption result (tail_of self.now ≤ CHUNK_BYTES * i)
-            (λ chunk. chunk.now ≡ take CHUNK_BYTES (drop (CHUNK_BYTES * i) (log_bytes self.now.groups))) }
+        ensures { MatchOption result (tail_of self.now ≤ LOG_CHUNK_BYTES * i)
+            (λ chunk. chunk.now ≡ take LOG_CHUNK_BYTES (drop (LOG_CHUNK_BYTES * i) (log_bytes self.now.groups))) }
     {
         self.chunks.get(i)
     }

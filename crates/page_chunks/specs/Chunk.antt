@@ -1,12 +1,12 @@
 -- A chunk of pages as its callers see it.
 use Rattle.std.specs.Prelude.{◌≡◌, ◌≤◌, ◌<◌, ◌+◌, ◌-◌, ◌*◌, ℕ, List, length, nat_lt, if◌then◌else◌}
+use Rattle.rm_base.specs.declared.limits.TheConstants.{PAGES_PER_CHUNK}
 use Rattle.page_image.specs.Image.{Image}
 use Rattle.message_model.specs.declared.Got.{Got}
 use Rattle.message_model.specs.declared.Got.TheVariants as got
 use Rattle.redo_record.specs.declared.redo.Group.{Group}
 use Rattle.redo_record.specs.Effect.{after_records, past, page_at, CountsFrom, RecordsApply}
 use Rattle.page_chunks.specs.declared.entries.Entry.{Entry}
-use Rattle.page_chunks.specs.declared.TheConstants.{CHUNK_PAGES}
 use Rattle.page_chunks.specs.Entries.{base_of, image_of, entry_at, EachStands}
 
 -- a chunk's number, the LSN of the last group that was shipped, and what is kept of each page
@@ -17,12 +17,12 @@ pub record Chunk : Type 0 where
 
 -- the chunk's first page
 abbrev pub first_page : Chunk → ℕ
-first_page chunk = CHUNK_PAGES * chunk.number
+first_page chunk = PAGES_PER_CHUNK * chunk.number
 
 -- the page is one of the chunk's
 pub record InChunk (chunk : Chunk) (p : ℕ) : Type 0 where
   pub from : first_page chunk ≤ p
-  pub within : p < first_page chunk + CHUNK_PAGES
+  pub within : p < first_page chunk + PAGES_PER_CHUNK
 
 -- what is kept of a page
 abbrev pub kept_of : Chunk → ℕ → Entry
@@ -48,7 +48,7 @@ answer_by groups p floor =
 -- what a chunk keeps
 pub record IsChunk (chunk : Chunk) : Type 0 where
   pub bound : chunk.number < 128
-  pub all : length chunk.entries ≡ CHUNK_PAGES
+  pub all : length chunk.entries ≡ PAGES_PER_CHUNK
   pub each : EachStands (first_page chunk) chunk.applied chunk.entries
 
 -- the group comes after the last one, and its records for the chunk's pages apply in order

@@ -4,13 +4,12 @@ ghost use Rattle.redo_record.specs.declared.redo.Group.{Group};
 ghost use Rattle.page_chunks.specs.Entries.{empty};
 ghost use Rattle.page_chunks.specs.Chunk.{InChunk, waiting, answer_of, answer_by, CanShip, IsShipped, AnswersSame, HasGot};
 
-use crate::CHUNK_PAGES;
 use crate::entries::Entry;
 use crate::judging::all_apply;
 use crate::taking::take_all;
 use message_model::Got;
 use redo_record::Group;
-use rm_base::{Lsn, PageId, WantOfMemory};
+use rm_base::{Lsn, PAGES_PER_CHUNK, PageId, WantOfMemory};
 use std::alloc::Global;
 use std::marker::Model;
 
@@ -52,7 +51,7 @@ impl PageChunk {
         ensures got { IfOk result (λ chunk. HasGot chunk []) }
         ensures none { IfOk result (λ chunk. (p : ℕ) → InChunk chunk p → waiting chunk p ≡ []) }
     {
-        let entries = blank_entries(alloc, CHUNK_PAGES)?;
+        let entries = blank_entries(alloc, PAGES_PER_CHUNK)?;
         Ok(PageChunk {
             number: c,
             applied: Lsn::new(0),
@@ -79,8 +78,8 @@ impl PageChunk {
     pub fn holds(&self, p: PageId) -> bool
         ensures { IsTrue result ↔ InChunk self.now p }
     {
-        let first = CHUNK_PAGES * u32::from(self.number);
-        first <= p.number() && p.number() < first + CHUNK_PAGES
+        let first = PAGES_PER_CHUNK * u32::from(self.number);
+        first <= p.number() && p.number() < first + PAGES_PER_CHUNK
     }
 
     /// Whether it holds a record for the page past the base image's LSN.
@@ -88,7 +87,7 @@ impl PageChunk {
         requires { InChunk self.now p }
         ensures { IsTrue result ↔ (waiting self.now p ≢ []) }
     {
-        let place = (p.number() - CHUNK_PAGES * u32::from(self.number)) as usize;
+        let place = (p.number() - PAGES_PER_CHUNK * u32::from(self.number)) as usize;
         !self.entries[place].pending.is_empty()
     }
 
@@ -105,7 +104,7 @@ impl PageChunk {
                 applied: self.applied,
             });
         }
-        let place = (p.number() - CHUNK_PAGES * u32::from(self.number)) as usize;
+        let place = (p.number() - PAGES_PER_CHUNK * u32::from(self.number)) as usize;
         let page = self.entries[place].image(alloc, p)?;
         Ok(Got::Image(page))
     }
@@ -114,7 +113,7 @@ impl PageChunk {
     pub fn can_ship(&self, alloc: Global, g: &Group) -> Result<bool, WantOfMemory>
         ensures { IfOk result (λ can. IsTrue can ↔ CanShip self.now g.now) }
     {
-        let first = CHUNK_PAGES * u32::from(self.number);
+        let first = PAGES_PER_CHUNK * u32::from(self.number);
         let lsn = g.lsn.number();
         if lsn == 0 || lsn - 1 != self.applied.number() {
             return Ok(false);
@@ -129,7 +128,7 @@ impl PageChunk {
         ensures err { OnErr result (self.new ≡ self.old) }
         ensures got { OnOk result ((groups : List Group) → HasGot self.old groups → HasGot self.new (groups ++ g.now ∷ [])) }
     {
-        let first = CHUNK_PAGES * u32::from(self.number);
+        let first = PAGES_PER_CHUNK * u32::from(self.number);
         take_all(self.entries.as_mut_slice(), alloc, first, g)?;
         self.applied = g.lsn;
         Ok(())
@@ -144,7 +143,7 @@ impl PageChunk {
         ensures err { OnErr result (self.new ≡ self.old) }
         ensures got { OnOk result ((groups : List Group) → HasGot self.old groups → HasGot self.new groups) }
     {
-        let place = (p.number() - CHUNK_PAGES * u32::from(self.number)) as usize;
+        let place = (p.number() - PAGES_PER_CHUNK * u32::from(self.number)) as usize;
         let entry = &mut self.entries[place];
         entry.fold(alloc, p)
     }

@@ -12,6 +12,3 @@ mod tests;
 
 pub use chunk::PageChunk;
 pub use laws::chunk_laws;
-
-/// How many pages a chunk holds.
-pub const CHUNK_PAGES: u32 = 256;

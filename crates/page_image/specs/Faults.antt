@@ -1,8 +1,8 @@
 -- Where bytes break the rules of a page: at the first of them, in the order in which the rules stand here.
 use Rattle.std.specs.Prelude.{◌==◌, ◌&&◌, ◌||◌, ℕ, zero, suc, ◌+◌, ◌-◌, ◌*◌, Bool, List, [], ◌∷◌, length, Option, None, Some, slice_index, nat_lt, nat_le, if◌then◌else◌}
+use Rattle.rm_base.specs.declared.limits.TheConstants.{PAGE_BYTES, PAGE_HEADER_BYTES}
 use Rattle.std.specs.Option.{option_or, option_map}
 use Rattle.page_image.specs.declared.header.Header.{Header}
-use Rattle.page_image.specs.declared.TheConstants.{PAGE_BYTES, HEADER_BYTES}
 use Rattle.page_image.specs.Image.{is_slotted, is_inner, has_body}
 use Rattle.page_image.specs.Layout.{header_at, end_of}
 
@@ -54,15 +54,15 @@ first_failing test from (suc n) = if test from then first_failing test (suc from
 
 -- item i, one of `count`, has a byte and does not reach into the slots
 abbrev pub slot_holds : List ℕ → ℕ → ℕ → Bool
-slot_holds bytes count i = nat_lt (end_of bytes (i + 1)) (end_of bytes i) && nat_le (HEADER_BYTES + 2 * count) (end_of bytes (i + 1))
+slot_holds bytes count i = nat_lt (end_of bytes (i + 1)) (end_of bytes i) && nat_le (PAGE_HEADER_BYTES + 2 * count) (end_of bytes (i + 1))
 
 -- the offset of the first slot that breaks its rules
 abbrev pub slot_fault : List ℕ → ℕ → Option ℕ
-slot_fault bytes count = option_map (λ i. HEADER_BYTES + 2 * i) (first_failing (slot_holds bytes count) 0 count)
+slot_fault bytes count = option_map (λ i. PAGE_HEADER_BYTES + 2 * i) (first_failing (slot_holds bytes count) 0 count)
 
 -- the bytes past the slots that are zero reach up to here: to the lowest item, or on an unmade page to the end
 abbrev pub zero_end : Header → ℕ
-zero_end h = if is_slotted h.kind then h.low else (if has_body h.kind then HEADER_BYTES else PAGE_BYTES)
+zero_end h = if is_slotted h.kind then h.low else (if has_body h.kind then PAGE_HEADER_BYTES else PAGE_BYTES)
 
 -- the first byte from `from` up to `to` that is not zero
 abbrev pub byte_fault : List ℕ → ℕ → ℕ → Option ℕ
@@ -74,5 +74,5 @@ fault bytes =
     let h = header_at bytes in
     if length bytes == PAGE_BYTES then
     option_or (first_broken (header_rules bytes))
-    (option_or (slot_fault bytes h.slots) (byte_fault bytes (HEADER_BYTES + 2 * h.slots) (zero_end h)))
+    (option_or (slot_fault bytes h.slots) (byte_fault bytes (PAGE_HEADER_BYTES + 2 * h.slots) (zero_end h)))
     else Some PAGE_BYTES

@@ -1,8 +1,8 @@
 -- A page as its readers see it, and what each change of a page does to it.
 use Rattle.std.specs.Prelude.{◌≡◌, ◌≢◌, ◌≤◌, ◌<◌, ◌+◌, ◌-◌, ◌⊎◌, ◌==◌, ℕ, Bool, true, false, List, [], ◌++◌, length, take, drop, replicate, insert, remove, sum_by, if◌then◌else◌}
+use Rattle.rm_base.specs.declared.limits.TheConstants.{PAGE_BYTES, PAGE_HEADER_BYTES}
 use Rattle.page_image.specs.declared.kind.Kind.{Kind}
 use Rattle.page_image.specs.declared.kind.Kind.TheVariants.{Unmade, Meta, Slots, Stamps, Leaf, Inner, Undo}
-use Rattle.page_image.specs.declared.TheConstants.{PAGE_BYTES, HEADER_BYTES}
 
 -- a page: its header, its items where it has slots, and its bytes past the header where it has fields
 pub record Image : Type 0 where
@@ -80,7 +80,7 @@ used items = sum_by (λ item. length item + 2) items
 
 -- the bytes left between the slots and the items; a page without slots has none
 abbrev pub free_of : Image → ℕ
-free_of im = if is_slotted im.kind then PAGE_BYTES - HEADER_BYTES - used im.items else 0
+free_of im = if is_slotted im.kind then PAGE_BYTES - PAGE_HEADER_BYTES - used im.items else 0
 
 -- the structure number after a change of the items: an inner page takes the change's LSN, others keep theirs
 abbrev pub structure_after : Image → ℕ → ℕ
@@ -107,19 +107,19 @@ made im kind level lsn =
       next = 0;
       level = level;
       items = [];
-      body = if has_body kind then zeros (PAGE_BYTES - HEADER_BYTES) else [];
+      body = if has_body kind then zeros (PAGE_BYTES - PAGE_HEADER_BYTES) else [];
     }
 
 -- bytes can be patched within the body; `at` counts from the start of the page
 pub record CanPatch (im : Image) (at : ℕ) (bytes : List ℕ) : Type 0 where
   pub fields : has_body im.kind ≡ true
-  pub past_header : HEADER_BYTES ≤ at
+  pub past_header : PAGE_HEADER_BYTES ≤ at
   pub within : at + length bytes ≤ PAGE_BYTES
 
 -- the body with the bytes at `at`
 abbrev pub patched : Image → ℕ → List ℕ → ℕ → Image
 patched im at bytes lsn =
-    let place = at - HEADER_BYTES in
+    let place = at - PAGE_HEADER_BYTES in
     record im { lsn = lsn; body = take place im.body ++ (bytes ++ drop (place + length bytes) im.body) }
 
 -- an item can join at place i where the page has room for it and its slot

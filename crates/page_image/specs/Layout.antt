@@ -1,8 +1,8 @@
 -- How a page lies in its bytes: its header, and its slots and items or its body.
 use Rattle.std.specs.Prelude.{◌==◌, ◌+◌, ◌-◌, ◌*◌, ℕ, zero, suc, List, [], ◌∷◌, ◌++◌, length, drop, slice_index, slice_range, if◌then◌else◌}
+use Rattle.rm_base.specs.declared.limits.TheConstants.{PAGE_BYTES, PAGE_HEADER_BYTES}
 use Rattle.rm_base.specs.Fields.{field, number}
 use Rattle.page_image.specs.declared.header.Header.{Header}
-use Rattle.page_image.specs.declared.TheConstants.{PAGE_BYTES, HEADER_BYTES}
 use Rattle.page_image.specs.Image.{Image, kind_number, kind_with, is_slotted, has_body, zeros, free_of}
 
 -- the bytes of a header: kind, 0, slots, page, LSN, structure, next, low, level, 0
@@ -44,7 +44,7 @@ items_at (suc n) end slots bytes =
 
 -- where item i ends: at the offset of the item before it, or at the page's end
 abbrev pub end_of : List ℕ → ℕ → ℕ
-end_of bytes i = if i == 0 then PAGE_BYTES else number 2 (drop (HEADER_BYTES + 2 * (i - 1)) bytes)
+end_of bytes i = if i == 0 then PAGE_BYTES else number 2 (drop (PAGE_HEADER_BYTES + 2 * (i - 1)) bytes)
 
 -- an image's header
 abbrev pub header_of : Image → Header
@@ -64,7 +64,7 @@ header_of im =
 unfoldable pub rest_bytes : Image → List ℕ
 rest_bytes im =
     if is_slotted im.kind then slot_bytes PAGE_BYTES im.items ++ (zeros (free_of im) ++ packed im.items)
-    else (if has_body im.kind then im.body else zeros (PAGE_BYTES - HEADER_BYTES))
+    else (if has_body im.kind then im.body else zeros (PAGE_BYTES - PAGE_HEADER_BYTES))
 
 -- the one spelling of a page
 unfoldable pub page_bytes : Image → List ℕ
@@ -80,8 +80,8 @@ image_with h bytes =
       structure = h.structure;
       next = h.next;
       level = h.level;
-      items = if is_slotted h.kind then items_at h.slots PAGE_BYTES (drop HEADER_BYTES bytes) bytes else [];
-      body = if has_body h.kind then drop HEADER_BYTES bytes else [];
+      items = if is_slotted h.kind then items_at h.slots PAGE_BYTES (drop PAGE_HEADER_BYTES bytes) bytes else [];
+      body = if has_body h.kind then drop PAGE_HEADER_BYTES bytes else [];
     }
 
 -- what the bytes of a page show

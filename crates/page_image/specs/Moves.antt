@@ -1,6 +1,6 @@
 -- What the small steps of a change need to know.
 use Rattle.std.specs.Prelude.{◌≡◌, ◌≤◌, ℕ, List, length}
-use Rattle.page_image.specs.declared.TheConstants.{PAGE_BYTES}
+use Rattle.rm_base.specs.declared.limits.TheConstants.{PAGE_BYTES}
 use Rattle.page_image.specs.Layout.{packed, slot_bytes}
 
 -- the bytes are the slots of items of which the first ends at `from`, and there is room to end at `to`

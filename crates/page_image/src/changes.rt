@@ -8,8 +8,7 @@ ghost use Rattle.page_image.specs.Rules.{IsPage};
 use crate::header::Header;
 use crate::kind::Kind;
 use crate::layout::{clear, close_slot, item_end, open_slot, overwrite, put_item, take_item};
-use crate::{HEADER_BYTES, PAGE_BYTES};
-use rm_base::PageId;
+use rm_base::{PAGE_BYTES, PAGE_HEADER_BYTES, PageId};
 
 /// Makes zero bytes the page before it is made.
 pub(crate) fn write_blank(bytes: &mut [u8], page: PageId)
@@ -85,7 +84,13 @@ pub(crate) fn insert(bytes: &mut [u8], i: usize, item: &[u8], lsn: u64)
     let end = item_end(bytes, i);
     put_item(bytes, low, end, item);
     let others = usize::from(header.slots) - i;
-    open_slot(bytes, HEADER_BYTES + 2 * i, others, end, end - item.len());
+    open_slot(
+        bytes,
+        PAGE_HEADER_BYTES + 2 * i,
+        others,
+        end,
+        end - item.len(),
+    );
     let header = Header {
         slots: header.slots + 1,
         lsn,
@@ -109,7 +114,7 @@ pub(crate) fn remove(bytes: &mut [u8], i: usize, lsn: u64)
     let begin = item_end(bytes, i + 1);
     take_item(bytes, low, end, end - begin);
     let others = usize::from(header.slots) - i - 1;
-    close_slot(bytes, HEADER_BYTES + 2 * i, others, begin, end);
+    close_slot(bytes, PAGE_HEADER_BYTES + 2 * i, others, begin, end);
     let header = Header {
         slots: header.slots - 1,
         lsn,
@@ -129,7 +134,7 @@ pub(crate) fn cut(bytes: &mut [u8], from: usize, lsn: u64)
 {
     let header = Header::read(bytes);
     let end = item_end(bytes, from);
-    clear(bytes, HEADER_BYTES + 2 * from, end);
+    clear(bytes, PAGE_HEADER_BYTES + 2 * from, end);
     let structure = lsn;
     let header = Header {
         slots: from as u16,

@@ -7,7 +7,8 @@ ghost use Rattle.page_image.specs.Faults.{first_broken, header_rules, slot_holds
 use crate::header::Header;
 use crate::kind::Kind;
 use crate::layout::item_end;
-use crate::{HEADER_BYTES, LAST_PAGE, MOST_SLOTS, PAGE_BYTES, TOP_LEVEL};
+use crate::{LAST_PAGE, MOST_SLOTS, TOP_LEVEL};
+use rm_base::{PAGE_BYTES, PAGE_HEADER_BYTES};
 
 impl Header {
     fn slots_hold(&self) -> bool
@@ -68,7 +69,7 @@ impl Header {
         if self.kind.has_items() {
             usize::from(self.low)
         } else if self.kind.has_body() {
-            HEADER_BYTES
+            PAGE_HEADER_BYTES
         } else {
             PAGE_BYTES
         }
@@ -123,7 +124,7 @@ fn slot_holds(bytes: &[u8], count: usize, i: usize) -> bool
     ensures { result ≡ slot_holds bytes.now count i }
 {
     let begin = item_end(bytes, i + 1);
-    begin < item_end(bytes, i) && HEADER_BYTES + 2 * count <= begin
+    begin < item_end(bytes, i) && PAGE_HEADER_BYTES + 2 * count <= begin
 }
 
 /// The offset of the first of `count` slots that breaks its rules.
@@ -136,7 +137,7 @@ fn slots_fault(bytes: &[u8], count: usize) -> Option<usize>
 {
     for i in 0..count {
         if !slot_holds(bytes, count, i) {
-            return Some(HEADER_BYTES + 2 * i);
+            return Some(PAGE_HEADER_BYTES + 2 * i);
         }
     }
     None
@@ -173,5 +174,5 @@ pub(crate) fn first_fault(bytes: &[u8]) -> Option<usize>
     if let Some(at) = slots_fault(bytes, count) {
         return Some(at);
     }
-    bytes_fault(bytes, HEADER_BYTES + 2 * count, header.zero_end())
+    bytes_fault(bytes, PAGE_HEADER_BYTES + 2 * count, header.zero_end())
 }

@@ -2,9 +2,8 @@
 ghost use Rattle.std.specs.Prelude.{◌≡◌, ◌≤◌, ◌++◌, length, drop};
 ghost use Rattle.page_image.specs.Layout.{header_at, header_bytes};
 
-use crate::HEADER_BYTES;
 use crate::kind::Kind;
-use rm_base::{get_u16, get_u32, get_u64, put_u16, put_u32, put_u64};
+use rm_base::{PAGE_HEADER_BYTES, get_u16, get_u32, get_u64, put_u16, put_u32, put_u64};
 
 /// The fields of a page's header.
 #[derive(Clone, Copy)]
@@ -22,7 +21,7 @@ pub(crate) struct Header {
 impl Header {
     /// A first byte past 6 is read as an unmade page's.
     pub(crate) fn read(bytes: &[u8]) -> Header
-        requires { HEADER_BYTES ≤ length bytes.now }
+        requires { PAGE_HEADER_BYTES ≤ length bytes.now }
         ensures { result ≡ header_at bytes.now }
     {
         Header {
@@ -38,8 +37,8 @@ impl Header {
     }
 
     pub(crate) fn write(&self, bytes: &mut [u8])
-        requires { HEADER_BYTES ≤ length bytes.old }
-        ensures { bytes.new ≡ header_bytes self.now ++ drop HEADER_BYTES bytes.old }
+        requires { PAGE_HEADER_BYTES ≤ length bytes.old }
+        ensures { bytes.new ≡ header_bytes self.now ++ drop PAGE_HEADER_BYTES bytes.old }
     {
         bytes[0] = self.kind.number();
         bytes[1] = 0;

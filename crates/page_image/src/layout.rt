@@ -6,8 +6,7 @@ ghost use Rattle.page_image.specs.Layout.{end_of, slot_bytes};
 ghost use Rattle.page_image.specs.Moves.{HasSlots};
 
 use crate::moving::move_bytes;
-use crate::{HEADER_BYTES, PAGE_BYTES};
-use rm_base::{get_u16, put_u16};
+use rm_base::{PAGE_BYTES, PAGE_HEADER_BYTES, get_u16, put_u16};
 
 /// Where item i ends: at the offset of the item before it, or at the page's end.
 pub(crate) fn item_end(bytes: &[u8], i: usize) -> usize
@@ -18,7 +17,7 @@ pub(crate) fn item_end(bytes: &[u8], i: usize) -> usize
     if i == 0 {
         PAGE_BYTES
     } else {
-        usize::from(get_u16(bytes, HEADER_BYTES + 2 * (i - 1)))
+        usize::from(get_u16(bytes, PAGE_HEADER_BYTES + 2 * (i - 1)))
     }
 }
 

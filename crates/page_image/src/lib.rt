@@ -16,12 +16,6 @@ pub use kind::Kind;
 pub use laws::page_laws;
 pub use page::Page;
 
-/// The bytes of a page.
-pub const PAGE_BYTES: usize = 4096;
-
-/// The bytes of a page's header.
-pub const HEADER_BYTES: usize = 32;
-
 /// The largest number of items on a page: each has a byte and a slot of two.
 const MOST_SLOTS: u16 = 1354;
 

@@ -2,7 +2,7 @@
 ghost use Rattle.std.specs.Prelude.{◌≡◌, ◌≤◌, ◌+◌, length};
 ghost use Rattle.std.specs.List.{copy_within};
 
-use crate::PAGE_BYTES;
+use rm_base::PAGE_BYTES;
 
 /// Moves the bytes from offset `from` up to `end` to offset `to`. They go by way of a copy, as whole slices,
 /// which takes a part of the time of a move byte by byte.

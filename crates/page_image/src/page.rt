@@ -12,8 +12,10 @@ use crate::faults::first_fault;
 use crate::header::Header;
 use crate::kind::Kind;
 use crate::layout::item_end;
-use crate::{HEADER_BYTES, LAST_PAGE, PAGE_BYTES, TOP_LEVEL, changes};
-use rm_base::{Duplicate, Lsn, PageId, WantOfMemory, get_u16, get_u32, get_u64};
+use crate::{LAST_PAGE, TOP_LEVEL, changes};
+use rm_base::{
+    Duplicate, Lsn, PAGE_BYTES, PAGE_HEADER_BYTES, PageId, WantOfMemory, get_u16, get_u32, get_u64,
+};
 use std::alloc::Global;
 use std::marker::Model;
 
@@ -139,7 +141,7 @@ impl Page {
         let header = Header::read(self.bytes.as_slice());
         header
             .low
-            .saturating_sub(HEADER_BYTES as u16 + 2 * header.slots)
+            .saturating_sub(PAGE_HEADER_BYTES as u16 + 2 * header.slots)
     }
 
     /// None exactly past the last item.
@@ -260,7 +262,7 @@ impl Page {
         ensures { IsTrue result ↔ CanPatch self.now at bytes.now }
     {
         self.kind().has_body()
-            && HEADER_BYTES <= usize::from(at)
+            && PAGE_HEADER_BYTES <= usize::from(at)
             && bytes.len() <= PAGE_BYTES
             && usize::from(at) + bytes.len() <= PAGE_BYTES
     }
@@ -284,7 +286,7 @@ impl Page {
         ensures { IsTrue result ↔ CanLend self.now at n }
     {
         self.kind().has_body()
-            && HEADER_BYTES <= at
+            && PAGE_HEADER_BYTES <= at
             && at <= PAGE_BYTES
             && n <= PAGE_BYTES
             && at + n <= PAGE_BYTES

@@ -1,5 +1,6 @@
 -- The opening's records: what they do to each page.
 use Rattle.std.proofs.Common.{◌-◌, drop, nat_eq, false, append_assoc, ◌≡◌, ◌≢◌, ℕ, List, [], ◌∷◌, length, refl, ap, subst, ◌∙◌, inl, length-append, arith, ◌<◌, ◌≤◌, ◌++◌, ◌+◌}
+use Rattle.rm_base.specs.declared.limits.TheConstants.{CATALOG_ROOT_PAGE_ID, FIRST_FREE_PAGE_ID, FIRST_UNDO_PAGE_ID, META_PAGE_ID, PAGE_BYTES, PAGE_HEADER_BYTES, SLOTS_PAGE_ID}
 use Rattle.std.specs.List.{AllByRecursion}
 use Rattle.std.proofs.lemmas.List.{drop_at}
 use Rattle.std.proofs.lemmas.Bool.Decides.{nat_tests}
@@ -7,14 +8,13 @@ use Rattle.rm_base.specs.Fields.{field, number}
 use Rattle.rm_base.proofs.FieldLaws.{length-field, number-field}
 use Rattle.page_image.specs.declared.kind.Kind.{Kind}
 use Rattle.page_image.specs.declared.kind.Kind.TheVariants.{Unmade, Meta, Slots, Leaf, Undo}
-use Rattle.page_image.specs.declared.TheConstants.{PAGE_BYTES, HEADER_BYTES}
 use Rattle.page_image.specs.Image.{made, zeros, unmade, kind_number, LevelFits, CanMake, CanPatch}
 use Rattle.redo_record.specs.declared.redo.Record.{Record}
 use Rattle.redo_record.specs.declared.redo.Record.TheVariants.{Make, Patch}
 use Rattle.redo_record.specs.Spelling.{IsAdmitted}
 use Rattle.redo_record.specs.Effect.{after_records, RecordsApply}
 use Rattle.redo_record.proofs.Fold.{after_records-page, after_records-other}
-use Rattle.page_store.specs.declared.TheConstants.{META_PAGE, SLOTS_PAGE, ROOT_PAGE, UNDO_PAGE, FIRST_FREE, FIELDS_AT, FORMAT, FIRST_NUMBER, NO_STAMP}
+use Rattle.page_store.specs.declared.TheConstants.{FIELDS_AT, FORMAT, FIRST_NUMBER, NO_STAMP}
 use Rattle.page_store.specs.Stored.{pages_of}
 use Rattle.page_store.specs.Opening.{meta_fields, opening_records, opened}
 
@@ -46,66 +46,66 @@ makes p kind ne fits = record { some = other_kind kind ne; fits = fits; from = i
 
 -- the records before one, and what these leave of a page keeps its number
 abbrev meta_made : List Record
-meta_made = Make META_PAGE Meta 0 ∷ []
+meta_made = Make META_PAGE_ID Meta 0 ∷ []
 
 abbrev meta_filled : List Record
-meta_filled = Make META_PAGE Meta 0 ∷ Patch META_PAGE FIELDS_AT meta_fields ∷ []
+meta_filled = Make META_PAGE_ID Meta 0 ∷ Patch META_PAGE_ID FIELDS_AT meta_fields ∷ []
 
 abbrev slots_made : List Record
-slots_made = Make META_PAGE Meta 0 ∷ Patch META_PAGE FIELDS_AT meta_fields ∷ Make SLOTS_PAGE Slots 0 ∷ []
+slots_made = Make META_PAGE_ID Meta 0 ∷ Patch META_PAGE_ID FIELDS_AT meta_fields ∷ Make SLOTS_PAGE_ID Slots 0 ∷ []
 
 abbrev root_made : List Record
-root_made = Make META_PAGE Meta 0 ∷ Patch META_PAGE FIELDS_AT meta_fields ∷ Make SLOTS_PAGE Slots 0 ∷ Make ROOT_PAGE Leaf 0 ∷ []
+root_made = Make META_PAGE_ID Meta 0 ∷ Patch META_PAGE_ID FIELDS_AT meta_fields ∷ Make SLOTS_PAGE_ID Slots 0 ∷ Make CATALOG_ROOT_PAGE_ID Leaf 0 ∷ []
 
 keeps_number : (lsn p : ℕ) (records : List Record) → (after_records lsn records (unmade p)).page ≡ p
 keeps_number lsn p records = after_records-page lsn records (unmade p)
 
-meta_fits : (lsn : ℕ) → CanPatch (after_records lsn meta_made (unmade META_PAGE)) FIELDS_AT meta_fields
+meta_fits : (lsn : ℕ) → CanPatch (after_records lsn meta_made (unmade META_PAGE_ID)) FIELDS_AT meta_fields
 meta_fits lsn = let size = length-meta_fields in record { fields = refl; past_header = omega arith; within = omega arith }
 
 pub opening_applies : (lsn p : ℕ) → RecordsApply lsn opening_records (unmade p)
 opening_applies lsn p =
-    let meta = λ (e : META_PAGE ≡ p). subst (λ (q : ℕ). CanMake (unmade q) Meta 0) e (makes META_PAGE Meta (λ e. absurd (omega arith)) refl) in
-    let fields = λ (e : META_PAGE ≡ (after_records lsn meta_made (unmade p)).page).
+    let meta = λ (e : META_PAGE_ID ≡ p). subst (λ (q : ℕ). CanMake (unmade q) Meta 0) e (makes META_PAGE_ID Meta (λ e. absurd (omega arith)) refl) in
+    let fields = λ (e : META_PAGE_ID ≡ (after_records lsn meta_made (unmade p)).page).
     subst (λ (q : ℕ). CanPatch (after_records lsn meta_made (unmade q)) FIELDS_AT meta_fields) (e ∙ keeps_number lsn p meta_made) (meta_fits lsn) in
-    let slots = λ (e : SLOTS_PAGE ≡ (after_records lsn meta_filled (unmade p)).page).
-    subst (λ (q : ℕ). CanMake (after_records lsn meta_filled (unmade q)) Slots 0) (e ∙ keeps_number lsn p meta_filled) (makes SLOTS_PAGE Slots (λ e. absurd (omega arith)) refl) in
-    let root = λ (e : ROOT_PAGE ≡ (after_records lsn slots_made (unmade p)).page).
-    subst (λ (q : ℕ). CanMake (after_records lsn slots_made (unmade q)) Leaf 0) (e ∙ keeps_number lsn p slots_made) (makes ROOT_PAGE Leaf (λ e. absurd (omega arith)) refl) in
-    let undo = λ (e : UNDO_PAGE ≡ (after_records lsn root_made (unmade p)).page).
-    subst (λ (q : ℕ). CanMake (after_records lsn root_made (unmade q)) Undo 0) (e ∙ keeps_number lsn p root_made) (makes UNDO_PAGE Undo (λ e. absurd (omega arith)) refl) in
+    let slots = λ (e : SLOTS_PAGE_ID ≡ (after_records lsn meta_filled (unmade p)).page).
+    subst (λ (q : ℕ). CanMake (after_records lsn meta_filled (unmade q)) Slots 0) (e ∙ keeps_number lsn p meta_filled) (makes SLOTS_PAGE_ID Slots (λ e. absurd (omega arith)) refl) in
+    let root = λ (e : CATALOG_ROOT_PAGE_ID ≡ (after_records lsn slots_made (unmade p)).page).
+    subst (λ (q : ℕ). CanMake (after_records lsn slots_made (unmade q)) Leaf 0) (e ∙ keeps_number lsn p slots_made) (makes CATALOG_ROOT_PAGE_ID Leaf (λ e. absurd (omega arith)) refl) in
+    let undo = λ (e : FIRST_UNDO_PAGE_ID ≡ (after_records lsn root_made (unmade p)).page).
+    subst (λ (q : ℕ). CanMake (after_records lsn root_made (unmade q)) Undo 0) (e ∙ keeps_number lsn p root_made) (makes FIRST_UNDO_PAGE_ID Undo (λ e. absurd (omega arith)) refl) in
     (meta, (fields, (slots, (root, (undo, tt)))))
 
 -- ---- the pages of a log of the opening alone
 
-pub opened_root : pages_of opened ROOT_PAGE ≡ made (unmade ROOT_PAGE) Leaf 0 1
+pub opened_root : pages_of opened CATALOG_ROOT_PAGE_ID ≡ made (unmade CATALOG_ROOT_PAGE_ID) Leaf 0 1
 opened_root = refl
 
-pub opened_meta : (pages_of opened META_PAGE).kind ≡ Meta
+pub opened_meta : (pages_of opened META_PAGE_ID).kind ≡ Meta
 opened_meta = refl
 
 -- the meta page's fields stand at the front of its body
-opened_body : (pages_of opened META_PAGE).body ≡ meta_fields ++ drop (0 + length meta_fields) (zeros (PAGE_BYTES - HEADER_BYTES))
+opened_body : (pages_of opened META_PAGE_ID).body ≡ meta_fields ++ drop (0 + length meta_fields) (zeros (PAGE_BYTES - PAGE_HEADER_BYTES))
 opened_body = refl
 
-pub opened_count : number 4 (drop 4 (pages_of opened META_PAGE).body) ≡ FIRST_FREE
+pub opened_count : number 4 (drop 4 (pages_of opened META_PAGE_ID).body) ≡ FIRST_FREE_PAGE_ID
 opened_count =
-    let others : List ℕ = field 4 UNDO_PAGE ++ (field 8 FIRST_NUMBER ++ field 8 NO_STAMP) in
-    let rest : List ℕ = drop (0 + length meta_fields) (zeros (PAGE_BYTES - HEADER_BYTES)) in
-    let parts : meta_fields ++ rest ≡ field 4 FORMAT ++ (field 4 FIRST_FREE ++ (others ++ rest)) =
-    append_assoc (field 4 FORMAT) (field 4 FIRST_FREE ++ others) rest ∙ ap (λ (b : List ℕ). field 4 FORMAT ++ b) (append_assoc (field 4 FIRST_FREE) others rest) in
+    let others : List ℕ = field 4 FIRST_UNDO_PAGE_ID ++ (field 8 FIRST_NUMBER ++ field 8 NO_STAMP) in
+    let rest : List ℕ = drop (0 + length meta_fields) (zeros (PAGE_BYTES - PAGE_HEADER_BYTES)) in
+    let parts : meta_fields ++ rest ≡ field 4 FORMAT ++ (field 4 FIRST_FREE_PAGE_ID ++ (others ++ rest)) =
+    append_assoc (field 4 FORMAT) (field 4 FIRST_FREE_PAGE_ID ++ others) rest ∙ ap (λ (b : List ℕ). field 4 FORMAT ++ b) (append_assoc (field 4 FIRST_FREE_PAGE_ID) others rest) in
     ap (λ (b : List ℕ). number 4 (drop 4 b)) (opened_body ∙ parts)
-    ∙ ap (number 4) (drop_at (field 4 FORMAT) (field 4 FIRST_FREE ++ (others ++ rest)) 4 (length-field 4 FORMAT))
-    ∙ number-field 4 FIRST_FREE (others ++ rest) (omega arith)
+    ∙ ap (number 4) (drop_at (field 4 FORMAT) (field 4 FIRST_FREE_PAGE_ID ++ (others ++ rest)) 4 (length-field 4 FORMAT))
+    ∙ number-field 4 FIRST_FREE_PAGE_ID (others ++ rest) (omega arith)
 
 not_page : (n p : ℕ) → n < 1028 → 1028 ≤ p → nat_eq n p ≡ false
 not_page n p lt le = let ne : n ≢ p = omega arith in grind (arith, nat_tests)
 
 -- a page that the opening does not count is not made
-pub opened_unmade : (p : ℕ) → FIRST_FREE ≤ p → pages_of opened p ≡ unmade p
+pub opened_unmade : (p : ℕ) → FIRST_FREE_PAGE_ID ≤ p → pages_of opened p ≡ unmade p
 opened_unmade p le =
-    let meta = not_page META_PAGE p (omega arith) le in
-    let slots = not_page SLOTS_PAGE p (omega arith) le in
-    let root = not_page ROOT_PAGE p (omega arith) le in
-    let undo = not_page UNDO_PAGE p (omega arith) le in
+    let meta = not_page META_PAGE_ID p (omega arith) le in
+    let slots = not_page SLOTS_PAGE_ID p (omega arith) le in
+    let root = not_page CATALOG_ROOT_PAGE_ID p (omega arith) le in
+    let undo = not_page FIRST_UNDO_PAGE_ID p (omega arith) le in
     after_records-other 1 opening_records (unmade p) (simp (meta, slots, root, undo))

@@ -7,7 +7,7 @@ ghost use Rattle.redo_record.specs.Effect.{CountsFrom, after_records, after_grou
 ghost use Rattle.page_store.specs.Stored.{Stored, groups_of, pages_of, next_lsn, with_group, all_kept, given_back};
 ghost use Rattle.page_store.specs.Opening.{opened};
 
-use crate::{FIRST_FREE, META_PAGE, ROOT_PAGE};
+use rm_base::{CATALOG_ROOT_PAGE_ID, FIRST_FREE_PAGE_ID, META_PAGE_ID};
 
 /// The laws of the pages that a log leaves. It does nothing when it is run.
 #[tactic(auto, using(crate::proofs::StoredLaws::page_number, crate::proofs::StoredLaws::after_group, crate::proofs::StoredLaws::after_keep, crate::proofs::StoredLaws::after_give_back, crate::proofs::StoredLaws::page_bound))]
@@ -22,8 +22,8 @@ pub fn page_laws()
 /// The pages that the opening leaves. It does nothing when it is run.
 #[tactic(auto, using(crate::proofs::OpeningLaws::opened_meta, crate::proofs::OpeningLaws::opened_count, crate::proofs::OpeningLaws::opened_root, crate::proofs::OpeningLaws::opened_unmade))]
 pub fn opening_laws()
-    ensures meta { (pages_of opened META_PAGE).kind ≡ Meta }
-    ensures count { number 4 (drop 4 (pages_of opened META_PAGE).body) ≡ FIRST_FREE }
-    ensures root { pages_of opened ROOT_PAGE ≡ made (unmade ROOT_PAGE) Leaf 0 1 }
-    ensures others { (p : ℕ) → FIRST_FREE ≤ p → pages_of opened p ≡ unmade p }
+    ensures meta { (pages_of opened META_PAGE_ID).kind ≡ Meta }
+    ensures count { number 4 (drop 4 (pages_of opened META_PAGE_ID).body) ≡ FIRST_FREE_PAGE_ID }
+    ensures root { pages_of opened CATALOG_ROOT_PAGE_ID ≡ made (unmade CATALOG_ROOT_PAGE_ID) Leaf 0 1 }
+    ensures others { (p : ℕ) → FIRST_FREE_PAGE_ID ≤ p → pages_of opened p ≡ unmade p }
 {}

@@ -3,13 +3,13 @@ ghost use Rattle.rm_base.specs.Fields.{field};
 ghost use Rattle.redo_record.specs.declared.redo.Record.TheVariants.{Make};
 ghost use Rattle.page_store.specs.Opening.{meta_fields, opening_records};
 
-use crate::{
-    FIELDS_AT, FIRST_FREE, FIRST_NUMBER, FORMAT, META_PAGE, NO_STAMP, ROOT_PAGE, SLOTS_PAGE,
-    UNDO_PAGE,
-};
+use crate::{FIELDS_AT, FIRST_NUMBER, FORMAT, NO_STAMP};
 use page_image::Kind;
 use redo_record::{Record, Records};
-use rm_base::{Bytes, PageId, WantOfMemory, put_u32, put_u64};
+use rm_base::{
+    Bytes, CATALOG_ROOT_PAGE_ID, FIRST_FREE_PAGE_ID, FIRST_UNDO_PAGE_ID, META_PAGE_ID, PageId,
+    SLOTS_PAGE_ID, WantOfMemory, put_u32, put_u64,
+};
 use std::alloc::Global;
 
 fn push_u32(out: &mut Bytes, v: u32) -> Result<(), WantOfMemory>
@@ -34,8 +34,8 @@ fn meta_fields(alloc: Global) -> Result<Bytes, WantOfMemory>
 {
     let mut fields = Bytes::new(alloc);
     push_u32(&mut fields, FORMAT)?;
-    push_u32(&mut fields, FIRST_FREE)?;
-    push_u32(&mut fields, UNDO_PAGE)?;
+    push_u32(&mut fields, FIRST_FREE_PAGE_ID)?;
+    push_u32(&mut fields, FIRST_UNDO_PAGE_ID)?;
     push_u64(&mut fields, FIRST_NUMBER)?;
     push_u64(&mut fields, NO_STAMP)?;
     Ok(fields)
@@ -58,14 +58,14 @@ pub(crate) fn opening_records(alloc: Global) -> Result<Records, WantOfMemory>
     ensures { IfOk result (λ records. records ≡ opening_records) }
 {
     let mut records = Records::new(alloc);
-    records.push(make(META_PAGE, Kind::Meta))?;
+    records.push(make(META_PAGE_ID, Kind::Meta))?;
     records.push(Record::Patch {
-        page: PageId::new(META_PAGE).unwrap(),
+        page: PageId::new(META_PAGE_ID).unwrap(),
         at: FIELDS_AT,
         bytes: meta_fields(alloc)?,
     })?;
-    records.push(make(SLOTS_PAGE, Kind::Slots))?;
-    records.push(make(ROOT_PAGE, Kind::Leaf))?;
-    records.push(make(UNDO_PAGE, Kind::Undo))?;
+    records.push(make(SLOTS_PAGE_ID, Kind::Slots))?;
+    records.push(make(CATALOG_ROOT_PAGE_ID, Kind::Leaf))?;
+    records.push(make(FIRST_UNDO_PAGE_ID, Kind::Undo))?;
     Ok(records)
 }

@@ -7,7 +7,10 @@ ghost use Rattle.page_store.specs.Opening.{opened};
 use crate::*;
 use page_image::Kind;
 use redo_record::{Record, Records};
-use rm_base::{Bytes, PageId, WantOfMemory};
+use rm_base::{
+    Bytes, CATALOG_ROOT_PAGE_ID, FIRST_UNDO_PAGE_ID, META_PAGE_ID, PageId, SLOTS_PAGE_ID,
+    WantOfMemory,
+};
 use std::alloc::Global;
 use std::test::Fail;
 
@@ -60,10 +63,10 @@ fn a_log_begins_with_the_opening(rt: HostRuntime) -> Result<(), Fail> {
     let store = PageStore::new(rt.alloc())?;
     assert_eq!(rt; store.log(), OPENING);
     let kinds = [
-        (META_PAGE, Kind::Meta),
-        (SLOTS_PAGE, Kind::Slots),
-        (ROOT_PAGE, Kind::Leaf),
-        (UNDO_PAGE, Kind::Undo),
+        (META_PAGE_ID, Kind::Meta),
+        (SLOTS_PAGE_ID, Kind::Slots),
+        (CATALOG_ROOT_PAGE_ID, Kind::Leaf),
+        (FIRST_UNDO_PAGE_ID, Kind::Undo),
     ];
     for (number, kind) in kinds {
         let page = PageId::new(number).ok_or("no page")?;

@@ -1,8 +1,8 @@
 -- A leaf item and its bytes.
 use Rattle.std.specs.Prelude.{◌≡◌, ◌≤◌, ◌<◌, ◌+◌, ◌^◌, ◌==◌, ℕ, List, ◌∷◌, ◌++◌, length, take, drop, slice_index, Option, MatchOption, if◌then◌else◌}
+use Rattle.rm_base.specs.declared.limits.TheConstants.{MAX_KEY_BYTES, MAX_RECORD_BYTES, RECORD_OVERHEAD_BYTES}
 use Rattle.rm_base.specs.Fields.{field, number}
 use Rattle.page_view.specs.declared.leaf.LeafItem.{LeafItem}
-use Rattle.page_view.specs.declared.leaf.TheConstants.{LONGEST_KEY, LARGEST_LEAF, LEAF_OVERHEAD}
 
 -- key length, key, 1 where it is deleted, transaction, the page and place of the older version, value
 abbrev pub leaf_bytes : LeafItem → List ℕ
@@ -12,8 +12,8 @@ leaf_bytes leaf =
 
 -- a leaf item within its limits, whose numbers fit their fields
 pub record IsLeaf (leaf : LeafItem) : Type 0 where
-  pub short_key : length leaf.key ≤ LONGEST_KEY
-  pub short : LEAF_OVERHEAD + length leaf.key + length leaf.value ≤ LARGEST_LEAF
+  pub short_key : length leaf.key ≤ MAX_KEY_BYTES
+  pub short : RECORD_OVERHEAD_BYTES + length leaf.key + length leaf.value ≤ MAX_RECORD_BYTES
   pub trx : leaf.trx < 2 ^ 64
   pub older_page : leaf.older.page < 2 ^ 32
   pub older_slot : leaf.older.slot < 2 ^ 16
@@ -29,14 +29,14 @@ leaf_of item =
         page = number 4 (drop (10 + slice_index item 0) item);
         slot = number 2 (drop (14 + slice_index item 0) item);
       };
-      value = drop (LEAF_OVERHEAD + slice_index item 0) item;
+      value = drop (RECORD_OVERHEAD_BYTES + slice_index item 0) item;
     }
 
 -- bytes that spell a leaf item
 pub record HoldsLeaf (item : List ℕ) : Type 0 where
-  pub short_key : slice_index item 0 ≤ LONGEST_KEY
-  pub long : LEAF_OVERHEAD + slice_index item 0 ≤ length item
-  pub short : length item ≤ LARGEST_LEAF
+  pub short_key : slice_index item 0 ≤ MAX_KEY_BYTES
+  pub long : RECORD_OVERHEAD_BYTES + slice_index item 0 ≤ length item
+  pub short : length item ≤ MAX_RECORD_BYTES
   pub flag : slice_index item (1 + slice_index item 0) ≤ 1
 
 -- the leaf item that the bytes spell, or none where they spell none

@@ -1,9 +1,9 @@
 -- An undo item and its bytes.
 use Rattle.std.specs.Prelude.{◌≡◌, ◌≤◌, ◌<◌, ◌+◌, ◌^◌, ◌==◌, ℕ, List, ◌∷◌, ◌++◌, length, take, drop, slice_index, Option, Some, None, MatchOption, if◌then◌else◌}
+use Rattle.rm_base.specs.declared.limits.TheConstants.{MAX_KEY_BYTES}
 use Rattle.rm_base.specs.Fields.{field, number}
 use Rattle.rm_base.specs.declared.places.UndoPtr.{UndoPtr}
 use Rattle.page_view.specs.declared.leaf.LeafItem.{LeafItem}
-use Rattle.page_view.specs.declared.leaf.TheConstants.{LONGEST_KEY}
 use Rattle.page_view.specs.Leaf.{leaf_bytes, leaf_of, IsLeaf, HoldsLeaf}
 
 -- a change that can be undone: its transaction, the tree's root, the transaction's change before it, the key, and the item that was replaced
@@ -35,7 +35,7 @@ pub record IsUndo (undo : Undone) : Type 0 where
   pub root : undo.root ≤ 32767
   pub before_page : undo.before.page < 2 ^ 32
   pub before_slot : undo.before.slot < 2 ^ 16
-  pub short_key : length undo.key ≤ LONGEST_KEY
+  pub short_key : length undo.key ≤ MAX_KEY_BYTES
   pub old : IsOld undo.key undo.old
 
 -- the item's parts, by where they stand in the bytes
@@ -52,7 +52,7 @@ undo_of item =
 -- a key's length and a key
 pub record HoldsKey (old : List ℕ) : Type 0 where
   pub long : length old ≡ 1 + slice_index old 0
-  pub short : slice_index old 0 ≤ LONGEST_KEY
+  pub short : slice_index old 0 ≤ MAX_KEY_BYTES
 
 -- by the flag, a key alone or a leaf item
 pub record HoldsOld (mark : ℕ) (old : List ℕ) : Type 0 where

@@ -1,18 +1,12 @@
 ghost use Rattle.std.specs.Prelude.{◌≡◌, length, IfOk, IsTrue, ◌↔◌, MatchOption};
 ghost use Rattle.page_view.specs.Leaf.{leaf_bytes, leaf_of, IsLeaf, HoldsLeaf, IsLeafOrNone, OneLeaf};
 
-use rm_base::{Bytes, Duplicate, TrxId, UndoPtr, WantOfMemory, get_u16, get_u32, get_u64};
+use rm_base::{
+    Bytes, Duplicate, MAX_KEY_BYTES, MAX_RECORD_BYTES, RECORD_OVERHEAD_BYTES, TrxId, UndoPtr,
+    WantOfMemory, get_u16, get_u32, get_u64,
+};
 use std::alloc::Global;
 use std::marker::Model;
-
-/// The most bytes of a key in a leaf.
-pub const LONGEST_KEY: usize = 64;
-
-/// The most bytes of a leaf item.
-pub const LARGEST_LEAF: usize = 1000;
-
-/// The bytes of a leaf item beside its key and its value.
-pub const LEAF_OVERHEAD: usize = 16;
 
 /// A version of a row as a leaf keeps it: its key, whether it is deleted, the transaction that wrote it,
 /// where the version before it stands, and the bytes of its value.
@@ -62,9 +56,9 @@ pub(crate) fn holds_leaf(item: &[u8]) -> bool
         return false;
     };
     let key = usize::from(*length);
-    key <= LONGEST_KEY
-        && LEAF_OVERHEAD + key <= item.len()
-        && item.len() <= LARGEST_LEAF
+    key <= MAX_KEY_BYTES
+        && RECORD_OVERHEAD_BYTES + key <= item.len()
+        && item.len() <= MAX_RECORD_BYTES
         && item[1 + key] <= 1
 }
 
@@ -99,7 +93,7 @@ impl<'a> LeafRef<'a> {
         ensures { result.now ≡ self.now.value }
     {
         let item = self.item;
-        &item[LEAF_OVERHEAD + usize::from(item[0])..]
+        &item[RECORD_OVERHEAD_BYTES + usize::from(item[0])..]
     }
 
     pub fn deleted(&self) -> bool

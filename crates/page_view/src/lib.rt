@@ -11,7 +11,7 @@ mod tests;
 mod undo;
 
 pub use inner::{InnerRef, InnerView, inner_laws};
-pub use leaf::{LARGEST_LEAF, LEAF_OVERHEAD, LONGEST_KEY, LeafItem, LeafRef, leaf_laws};
+pub use leaf::{LeafItem, LeafRef, leaf_laws};
 pub use leaf_view::LeafView;
-pub use stamps::{STAMPS_OF_A_PAGE, StampView};
+pub use stamps::StampView;
 pub use undo::{UndoRef, UndoView, undo_laws};

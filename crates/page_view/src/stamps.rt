@@ -2,12 +2,9 @@ ghost use Rattle.std.specs.Prelude.{◌≡◌, ◌<◌, ◌*◌, drop, SomeIff};
 ghost use Rattle.rm_base.specs.Fields.{number};
 ghost use Rattle.page_view.specs.Views.{IsViewOf};
 
-use page_image::{HEADER_BYTES, Kind, Page};
-use rm_base::{Stamp, get_u64};
+use page_image::{Kind, Page};
+use rm_base::{PAGE_HEADER_BYTES, STAMPS_PER_PAGE, Stamp, get_u64};
 use std::marker::Model;
-
-/// How many stamps a page holds.
-pub const STAMPS_OF_A_PAGE: usize = 508;
 
 /// The stamps of a page.
 #[derive(Debug, Drop)]
@@ -41,11 +38,11 @@ impl<'a> StampView<'a> {
 
     /// The stamp at place i, 0 where its transaction is not committed. None exactly from place 508 on.
     pub fn stamp(&self, i: usize) -> Option<Stamp>
-        ensures { SomeIff result (i < STAMPS_OF_A_PAGE) (number 8 (drop (8 * i) self.now.body)) }
+        ensures { SomeIff result (i < STAMPS_PER_PAGE) (number 8 (drop (8 * i) self.now.body)) }
     {
-        if i >= STAMPS_OF_A_PAGE {
+        if i >= STAMPS_PER_PAGE {
             return None;
         }
-        Some(Stamp::new(get_u64(self.page.bytes(), HEADER_BYTES + 8 * i)))
+        Some(Stamp::new(get_u64(self.page.bytes(), PAGE_HEADER_BYTES + 8 * i)))
     }
 }

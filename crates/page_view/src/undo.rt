@@ -2,9 +2,9 @@ ghost use Rattle.std.specs.Prelude.{◌≡◌, length, IsTrue, ◌↔◌};
 ghost use Rattle.page_view.specs.Undo.{undo_bytes, IsUndo, HoldsUndo, HoldsOld, HoldsKey, IsUndoOrNone, OneUndo};
 ghost use Rattle.page_view.specs.Views.{IsPartOrNone, IsViewOf};
 
-use crate::leaf::{LONGEST_KEY, LeafRef, holds_leaf};
+use crate::leaf::{LeafRef, holds_leaf};
 use page_image::{Kind, Page};
-use rm_base::{PageId, TrxId, UndoPtr, get_u16, get_u32, get_u64};
+use rm_base::{MAX_KEY_BYTES, PageId, TrxId, UndoPtr, get_u16, get_u32, get_u64};
 use std::marker::Model;
 
 /// The bytes of an undo item before its old item.
@@ -47,7 +47,7 @@ fn holds_key(old: &[u8]) -> bool
 {
     match old {
         [] => false,
-        [length, key @ ..] => key.len() == usize::from(*length) && key.len() <= LONGEST_KEY,
+        [length, key @ ..] => key.len() == usize::from(*length) && key.len() <= MAX_KEY_BYTES,
     }
 }
 

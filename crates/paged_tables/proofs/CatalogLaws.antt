@@ -1,5 +1,6 @@
 -- Tables as items of the catalog, and back.
 use Rattle.std.proofs.Common.{◌≡◌, ◌≤◌, ◌+◌, ◌*◌, ℕ, Bool, true, false, cond, List, [], ◌∷◌, ◌++◌, length, map, Option, Some, None, Result, Ok, Err, refl, sym, ap, subst, ◌∙◌, length-append, append-nil, arith}
+use Rattle.rm_base.specs.declared.limits.TheConstants.{CATALOG_ROOT_PAGE_ID}
 use Rattle.std.specs.Prelude.{◌&&◌, filter, find, slice_get, bytes_eq, Contains}
 use Rattle.std.specs.Result.{OkIff}
 use Rattle.std.specs.List.{AllByRecursion}
@@ -12,7 +13,6 @@ use Rattle.rm_base.specs.Fields.{field}
 use Rattle.rm_base.specs.declared.key_range.KeyRange.{KeyRange}
 use Rattle.rm_base.proofs.FieldLaws.{length-field}
 use Rattle.page_image.specs.Image.{Image}
-use Rattle.page_store.specs.declared.TheConstants.{ROOT_PAGE}
 use Rattle.tree_store.specs.Forest.{Forest}
 use Rattle.sql_database.specs.Database.{Database}
 use Rattle.sql_values.specs.declared.schemas.Column.{Column}
@@ -184,7 +184,7 @@ not_refused {E} schema row s root r schema_is row_is table bounded h =
 
 -- ---- the items of a name
 
-pub named_items : (pages : ℕ → Image) (d : Database) (h : Holds pages d) (r : KeyRange) (name : List ℕ) (root : ℕ) (items : List LeafItem) → root ≡ ROOT_PAGE
+pub named_items : (pages : ℕ → Image) (d : Database) (h : Holds pages d) (r : KeyRange) (name : List ℕ) (root : ℕ) (items : List LeafItem) → root ≡ CATALOG_ROOT_PAGE_ID
     → r.low ≡ Some name → r.high ≡ Some name
     → ((roots : List ℕ) (its : ℕ → List (List ℕ)) → Forest pages roots its → Contains roots root → map leaf_bytes items ≡ filter (walk.in_range r.low r.high) (its root))
     → map leaf_bytes items ≡ entry_items (filter (has_name name) h.entries)

@@ -1,5 +1,6 @@
 -- What each change makes of the database that pages hold.
 use Rattle.std.proofs.Common.{◌≡◌, ◌≢◌, ℕ, Bool, true, false, cond, nat_eq, List, [], ◌∷◌, ◌++◌, Option, Some, None, inl, inr, refl, sym, ap, subst, ◌∙◌, arith}
+use Rattle.rm_base.specs.declared.limits.TheConstants.{CATALOG_ROOT_PAGE_ID}
 use mathlib.Core.Path.{fun_ext}
 use Rattle.std.specs.Prelude.{filter, bytes_eq, codes, option_map, option_to_list, Contains}
 use Rattle.std.specs.Option.{option_or, option_map_or}
@@ -9,7 +10,6 @@ use Rattle.std.proofs.lemmas.Bool.Decides.{nat_tests}
 use Rattle.std.proofs.lemmas.List.Elements.{Contains-push, Contains-append_left}
 use Rattle.std.proofs.lemmas.List.Folds.{find-append}
 use Rattle.page_image.specs.Image.{Image}
-use Rattle.page_store.specs.declared.TheConstants.{ROOT_PAGE}
 use Rattle.sql_values.specs.declared.schemas.Schema.{Schema}
 use Rattle.sql_values.specs.declared.values.Value.{Value}
 use Rattle.sql_values.specs.Order.{text_cmp}
@@ -100,7 +100,7 @@ rows_changed pages new d h t e rows found stored forest =
       forest = forest;
       entries = h.entries;
       rooted = h.rooted;
-      catalog = tree_other h.items e.root ROOT_PAGE (row_items e.schema.key rows) (λ same. here.other (sym same)) ∙ h.catalog;
+      catalog = tree_other h.items e.root CATALOG_ROOT_PAGE_ID (row_items e.schema.key rows) (λ same. here.other (sym same)) ∙ h.catalog;
       each = h.each;
       schemas = h.schemas;
       tables = λ u f is.
@@ -165,16 +165,16 @@ pub record IsMore (roots : List ℕ) (items : ℕ → List (List ℕ)) (d : Data
   pub absent : table_named d.schemas e.schema.table ≡ None
   pub word : e.schema.table ≢ codes "table"
   pub fresh : Contains roots e.root → ⊥
-  pub other : e.root ≢ ROOT_PAGE
+  pub other : e.root ≢ CATALOG_ROOT_PAGE_ID
   pub entry : IsEntry e
 
 abbrev with_new_tree : (ℕ → List (List ℕ)) → Entry → ℕ → List (List ℕ)
-with_new_tree items e = with_tree (with_tree items ROOT_PAGE (with_item e.schema.table (entry_item e) (items ROOT_PAGE))) e.root []
+with_new_tree items e = with_tree (with_tree items CATALOG_ROOT_PAGE_ID (with_item e.schema.table (entry_item e) (items CATALOG_ROOT_PAGE_ID))) e.root []
 
-new_tree_other : (items : ℕ → List (List ℕ)) (e : Entry) (r : ℕ) → r ≢ e.root → r ≢ ROOT_PAGE → with_new_tree items e r ≡ items r
+new_tree_other : (items : ℕ → List (List ℕ)) (e : Entry) (r : ℕ) → r ≢ e.root → r ≢ CATALOG_ROOT_PAGE_ID → with_new_tree items e r ≡ items r
 new_tree_other items e r ne not_root =
-    let catalog : List (List ℕ) = with_item e.schema.table (entry_item e) (items ROOT_PAGE) in
-    tree_other (with_tree items ROOT_PAGE catalog) e.root r [] ne ∙ tree_other items ROOT_PAGE r catalog not_root
+    let catalog : List (List ℕ) = with_item e.schema.table (entry_item e) (items CATALOG_ROOT_PAGE_ID) in
+    tree_other (with_tree items CATALOG_ROOT_PAGE_ID catalog) e.root r [] ne ∙ tree_other items CATALOG_ROOT_PAGE_ID r catalog not_root
 
 rooted_apart : (roots : List ℕ) (r root : ℕ) → Contains roots r → (Contains roots root → ⊥) → r ≢ root
 rooted_apart roots r root here fresh same = fresh (subst (Contains roots) same here)
@@ -189,7 +189,7 @@ pub table_made : (pages new : ℕ → Image) (d : Database) (h : Holds pages d) 
     → Forest new (h.roots ++ e.root ∷ []) (with_new_tree h.items e) → Holds new (with_table d e.schema)
 table_made pages new d h e more forest =
     let name : List ℕ = e.schema.table in
-    let catalog : List (List ℕ) = with_item name (entry_item e) (h.items ROOT_PAGE) in
+    let catalog : List (List ℕ) = with_item name (entry_item e) (h.items CATALOG_ROOT_PAGE_ID) in
     let items : ℕ → List (List ℕ) = with_new_tree h.items e in
     let roots : List ℕ = h.roots ++ e.root ∷ [] in
     let entries : List Entry = with_entry e h.entries in
@@ -201,10 +201,10 @@ table_made pages new d h e more forest =
       items = items;
       forest = forest;
       entries = entries;
-      rooted = Contains-append_left h.roots (e.root ∷ []) ROOT_PAGE h.rooted;
+      rooted = Contains-append_left h.roots (e.root ∷ []) CATALOG_ROOT_PAGE_ID h.rooted;
       catalog =
-          tree_other (with_tree h.items ROOT_PAGE catalog) e.root ROOT_PAGE [] (λ same. more.other (sym same))
-          ∙ tree_same h.items ROOT_PAGE catalog
+          tree_other (with_tree h.items CATALOG_ROOT_PAGE_ID catalog) e.root CATALOG_ROOT_PAGE_ID [] (λ same. more.other (sym same))
+          ∙ tree_same h.items CATALOG_ROOT_PAGE_ID catalog
           ∙ ap (with_item name (entry_item e)) h.catalog
           ∙ sym (items_with_entry e h.entries);
       each = each_with_entry IsEntry e h.entries h.each more.entry;
@@ -225,7 +225,7 @@ table_made pages new d h e more forest =
             record {
               rooted = Contains-push h.roots e.root;
               other = more.other;
-              items_are = tree_same (with_tree h.items ROOT_PAGE catalog) e.root [];
+              items_are = tree_same (with_tree h.items CATALOG_ROOT_PAGE_ID catalog) e.root [];
               stored = tt;
             })
         | inr ne ↦
@@ -274,9 +274,9 @@ holds_sound pages d h = record {
 }
 
 -- an empty catalog
-pub holds_empty : (pages : ℕ → Image) → Forest pages (ROOT_PAGE ∷ []) (λ r. []) → Holds pages empty
+pub holds_empty : (pages : ℕ → Image) → Forest pages (CATALOG_ROOT_PAGE_ID ∷ []) (λ r. []) → Holds pages empty
 holds_empty pages forest = record {
-  roots = ROOT_PAGE ∷ [];
+  roots = CATALOG_ROOT_PAGE_ID ∷ [];
   items = λ r. [];
   forest = forest;
   entries = [];

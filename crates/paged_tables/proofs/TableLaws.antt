@@ -1,12 +1,12 @@
 -- What the calls on tables make of the database.
 use Rattle.std.proofs.Common.{◌≡◌, ◌≤◌, ℕ, List, [], ◌∷◌, ◌++◌, length, Option, Some, None, Result, Ok, Err, IfOk, OnOk, OnErr, refl, sym, ap, subst, ◌∙◌, arith}
+use Rattle.rm_base.specs.declared.limits.TheConstants.{CATALOG_ROOT_PAGE_ID}
 use Rattle.std.specs.Prelude.{IsOk, map, filter, option_map, option_to_list, Contains}
 use Rattle.std.specs.List.{AllByRecursion}
 use Rattle.rm_base.specs.declared.key_range.KeyRange.{KeyRange}
 use Rattle.page_image.specs.Image.{Image}
 use Rattle.page_view.specs.declared.leaf.LeafItem.{LeafItem}
 use Rattle.page_view.specs.Leaf.{leaf_bytes}
-use Rattle.page_store.specs.declared.TheConstants.{ROOT_PAGE}
 use Rattle.page_store.specs.Stored.{Stored, pages_of, all_kept}
 use Rattle.page_store.proofs.StoredLaws.{after_keep}
 use Rattle.bplus_tree.specs.Walk as walk
@@ -117,7 +117,7 @@ entry_room pages catalog root other s a b path a_is b_is room =
     room
 
 pub create_made : (pages mid new : ℕ → Image) (d : Database) (h : Holds pages d) (s : Schema) (root catalog : ℕ) (item : LeafItem) → CanCreate d.schemas s
-    → Forest mid h.roots h.items → count_of (mid 0) ≤ 32767 → root ≡ count_of (mid 0) → catalog ≡ ROOT_PAGE → item ≡ live_item s.table (catalog_value s root)
+    → Forest mid h.roots h.items → count_of (mid 0) ≤ 32767 → root ≡ count_of (mid 0) → catalog ≡ CATALOG_ROOT_PAGE_ID → item ≡ live_item s.table (catalog_value s root)
     → Forest new (h.roots ++ count_of (mid 0) ∷ []) (with_tree (with_tree h.items catalog (with_item item.key (leaf_bytes item) (h.items catalog))) (count_of (mid 0)) [])
     → Holds new (with_table d s)
 create_made pages mid new d h s root catalog item can stands bound root_is catalog_is item_is forest =
@@ -133,7 +133,7 @@ create_made pages mid new d h s root catalog item can stands bound root_is catal
       other = λ same. fresh (subst (Contains h.roots) (sym same) h.rooted);
       entry = record { table = can.new.table; bounded = record { table = can.name; columns = can.columns; page = bound } };
     }
-    (subst (λ (x : LeafItem). Forest new (h.roots ++ count ∷ []) (with_tree (with_tree h.items ROOT_PAGE (with_item x.key (leaf_bytes x) (h.items ROOT_PAGE))) count [])) here
+    (subst (λ (x : LeafItem). Forest new (h.roots ++ count ∷ []) (with_tree (with_tree h.items CATALOG_ROOT_PAGE_ID (with_item x.key (leaf_bytes x) (h.items CATALOG_ROOT_PAGE_ID))) count [])) here
     (subst (λ (p : ℕ). Forest new (h.roots ++ count ∷ []) (with_tree (with_tree h.items p (with_item item.key (leaf_bytes item) (h.items p))) count [])) catalog_is forest))
 
 -- ---- the changes are kept

@@ -1,8 +1,8 @@
 -- The database that the pages hold.
 use Rattle.std.specs.Prelude.{◌≡◌, ◌≢◌, ℕ, List, codes, Some, None, Contains, option_map}
+use Rattle.rm_base.specs.declared.limits.TheConstants.{CATALOG_ROOT_PAGE_ID}
 use Rattle.std.specs.List.{AllByRecursion}
 use Rattle.page_image.specs.Image.{Image}
-use Rattle.page_store.specs.declared.TheConstants.{ROOT_PAGE}
 use Rattle.page_store.specs.Stored.{Stored, pages_of, given_back}
 use Rattle.tree_store.specs.Forest.{Forest, IsFull}
 use Rattle.sql_values.specs.declared.schemas.Schema.{Schema}
@@ -26,7 +26,7 @@ pub record IsEntry (e : Entry) : Type 0 where
 -- the tree of a table has its rows, and is not that of the catalog
 pub record HoldsRows (roots : List ℕ) (items : ℕ → List (List ℕ)) (e : Entry) (rows : List (List Value)) : Type 0 where
   pub rooted : Contains roots e.root
-  pub other : e.root ≢ ROOT_PAGE
+  pub other : e.root ≢ CATALOG_ROOT_PAGE_ID
   pub items_are : items e.root ≡ row_items e.schema.key rows
   pub stored : AllByRecursion (IsStored e.schema) rows
 
@@ -37,8 +37,8 @@ pub record Holds (pages : ℕ → Image) (d : Database) : Type 0 where
   pub items : ℕ → List (List ℕ)
   pub forest : Forest pages roots items
   pub entries : List Entry
-  pub rooted : Contains roots ROOT_PAGE
-  pub catalog : items ROOT_PAGE ≡ entry_items entries
+  pub rooted : Contains roots CATALOG_ROOT_PAGE_ID
+  pub catalog : items CATALOG_ROOT_PAGE_ID ≡ entry_items entries
   pub each : AllByRecursion IsEntry entries
   pub schemas : (t : List ℕ) → table_named d.schemas t ≡ option_map (λ e. e.schema) (entry_named entries t)
   pub tables : (t : List ℕ) (e : Entry) → entry_named entries t ≡ Some e → HoldsRows roots items e (d.tables t)

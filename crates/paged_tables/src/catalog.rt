@@ -10,9 +10,9 @@ ghost use Rattle.paged_tables.specs.Content.{IsEntry, Holds};
 
 use crate::items::live_item;
 use crate::reading::items_in;
-use page_store::{PageStore, ROOT_PAGE};
+use page_store::PageStore;
 use page_view::LeafItem;
-use rm_base::{Bytes, KeyRange, Name, PageId, Text, WantOfMemory};
+use rm_base::{Bytes, CATALOG_ROOT_PAGE_ID, KeyRange, Name, PageId, Text, WantOfMemory};
 use row_codec::{row_of, value_of};
 use sql_catalog::{row_for, schema_of};
 use sql_values::{Column, Columns, Schema, Sort};
@@ -20,9 +20,9 @@ use std::alloc::Global;
 
 /// The root of the catalog's tree.
 pub(crate) fn catalog_root() -> PageId
-    ensures { result ≡ ROOT_PAGE }
+    ensures { result ≡ CATALOG_ROOT_PAGE_ID }
 {
-    PageId::new(ROOT_PAGE).unwrap()
+    PageId::new(CATALOG_ROOT_PAGE_ID).unwrap()
 }
 
 fn copied(alloc: Global, bytes: &[u8]) -> Result<Bytes, WantOfMemory>

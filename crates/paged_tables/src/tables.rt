@@ -1,7 +1,7 @@
 ghost use Rattle.std.specs.Prelude.{◌≡◌, ◌↔◌, ℕ, List, codes, filter, Some, IsOk, IfOk, OnOk, OnErr};
 ghost use Rattle.redo_record.specs.Spelling.{Spells};
 ghost use Rattle.redo_record.specs.Effect.{CountsFrom};
-ghost use Rattle.page_store.specs.declared.TheConstants.{ROOT_PAGE};
+ghost use Rattle.page_store.specs.declared.TheConstants.{CATALOG_ROOT_PAGE_ID};
 ghost use Rattle.page_store.specs.Stored.{groups_of, pages_of, all_kept, given_back};
 ghost use Rattle.tree_store.specs.Forest.{IsFull};
 ghost use Rattle.sql_database.specs.Database.{Database, empty};
@@ -14,7 +14,7 @@ use crate::reading::items_in;
 use crate::rows::{change_tree, rows_of};
 use page_store::PageStore;
 use redo_record::TreeNo;
-use rm_base::{KeyRange, Name, WantOfMemory};
+use rm_base::{CATALOG_ROOT_PAGE_ID, KeyRange, Name, WantOfMemory};
 use sql_database::Change;
 use sql_engine::{SpaceFull, TableStore};
 use sql_values::{Rows, Schema};
@@ -117,7 +117,7 @@ impl TableStore for PagedTables {
         ensures made { (d : Database) → HoldsNow self.old d → CanCreate d.schemas schema.now
             → IfOk result (λ a. IsOk a → HoldsNow self.new (with_table d schema.now)) }
         ensures keeps { (k : Database) → HoldsKept self.old k → HoldsKept self.new k }
-        ensures full { IfOk result (λ a. OnErr a (IsFull (pages_of self.new) ROOT_PAGE)) }
+        ensures full { IfOk result (λ a. OnErr a (IsFull (pages_of self.new) CATALOG_ROOT_PAGE_ID)) }
         ensures room { IfOk result (λ a. OnErr a (IsFullNow self.new)) }
     {
         let catalog = catalog_root();

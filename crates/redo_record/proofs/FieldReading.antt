@@ -1,5 +1,6 @@
 -- A field that is read is spelled so, and a field that is spelled is read, whatever follows.
 use Rattle.std.proofs.Common.{◌≡◌, ◌≢◌, ◌≤◌, ◌<◌, ◌-◌, ◌^◌, ℕ, true, false, cond, ltb, leb, List, [], ◌∷◌, ◌++◌, length, take, drop, Some, None, refl, sym, ap, subst, ◌∙◌, append_assoc, arith}
+use Rattle.rm_base.specs.declared.limits.TheConstants.{PAGE_BYTES, PAGE_HEADER_BYTES}
 use Rattle.std.specs.Prelude.{◌&&◌}
 use Rattle.std.proofs.lemmas.Bool.{ltb-false, le-ltb, and_parts, eqb-true}
 use Rattle.std.proofs.lemmas.Bool.Decides.{nat_tests}
@@ -9,7 +10,6 @@ use Rattle.rm_base.specs.Fields.{field, number, AreBytes}
 use Rattle.rm_base.proofs.FieldLaws.{length-field, number-field, number-lt, field-number}
 use Rattle.page_image.specs.declared.kind.Kind.{Kind}
 use Rattle.page_image.specs.declared.kind.Kind.TheVariants.{Unmade, Meta, Slots, Stamps, Leaf, Inner, Undo}
-use Rattle.page_image.specs.declared.TheConstants.{PAGE_BYTES, HEADER_BYTES}
 use Rattle.page_image.specs.Image.{kind_number, kind_with, LevelFits}
 use Rattle.redo_record.specs.Spelling.{counted, FitsPage}
 use Rattle.redo_record.specs.Reading.{byte_at, number_at, taken_at, page_number_at, kind_at, level_fits, counted_at}
@@ -128,8 +128,8 @@ level_again Undo level e = rw e refl
 pub counted_takes : (bytes : List ℕ) (x : List ℕ × List ℕ) → counted_at bytes ≡ Some x → Takes bytes (counted x.0) x.1 × FitsPage x.0
 unfolding counted_at
 counted_takes bytes x e =
-    let a = bind_some (number_at 2 bytes) (λ n. cond (leb 1 n.0 && leb n.0 (PAGE_BYTES - HEADER_BYTES)) (taken_at n.0 n.1) None) x e in
-    let g = then_some (leb 1 a.0.0 && leb a.0.0 (PAGE_BYTES - HEADER_BYTES)) (taken_at a.0.0 a.0.1) x a.2 in
+    let a = bind_some (number_at 2 bytes) (λ n. cond (leb 1 n.0 && leb n.0 (PAGE_BYTES - PAGE_HEADER_BYTES)) (taken_at n.0 n.1) None) x e in
+    let g = then_some (leb 1 a.0.0 && leb a.0.0 (PAGE_BYTES - PAGE_HEADER_BYTES)) (taken_at a.0.0 a.0.1) x a.2 in
     let within = and_parts _ _ g.0 in
     let long = number_takes 2 bytes a.0 a.1 in
     let new = taken_takes a.0.0 a.0.1 x g.1 in
@@ -142,4 +142,4 @@ unfolding counted_at
 counted_again bytes rest fits =
     let bound : length bytes < 256 ^ 2 = omega (arith, fits.1) in
     ap counted_at (append_assoc (field 2 (length bytes)) bytes rest)
-    ∙ rw (number_again 2 (length bytes) (bytes ++ rest) bound, true_le 1 (length bytes) fits.0, true_le (length bytes) (PAGE_BYTES - HEADER_BYTES) fits.1) (taken_again bytes rest)
+    ∙ rw (number_again 2 (length bytes) (bytes ++ rest) bound, true_le 1 (length bytes) fits.0, true_le (length bytes) (PAGE_BYTES - PAGE_HEADER_BYTES) fits.1) (taken_again bytes rest)

@@ -1,9 +1,9 @@
 -- Reading fields and records from left to right. Each word gives what it read and the bytes after it, or none.
 use Rattle.std.specs.Prelude.{ℕ, ◌-◌, Bool, List, [], ◌∷◌, length, take, drop, Option, Some, None, option_and_then, nat_lt, nat_le, ◌==◌, ◌&&◌, if◌then◌else◌}
+use Rattle.rm_base.specs.declared.limits.TheConstants.{PAGE_BYTES, PAGE_HEADER_BYTES}
 use Rattle.rm_base.specs.Fields.{number}
 use Rattle.page_image.specs.declared.kind.Kind.{Kind}
 use Rattle.page_image.specs.declared.kind.Kind.TheVariants.{Inner}
-use Rattle.page_image.specs.declared.TheConstants.{PAGE_BYTES, HEADER_BYTES}
 use Rattle.page_image.specs.Image.{kind_with}
 use Rattle.redo_record.specs.declared.redo.Record.{Record}
 use Rattle.redo_record.specs.declared.redo.Record.TheVariants.{Make, Patch, InsertSlot, RemoveSlot, Cut, Link}
@@ -46,7 +46,7 @@ level_fits _ level = level == 0
 unfoldable pub counted_at : List ℕ → Option (List ℕ × List ℕ)
 counted_at bytes = do
   n ← number_at 2 bytes
-  if nat_le 1 n.0 && nat_le n.0 (PAGE_BYTES - HEADER_BYTES) then taken_at n.0 n.1 else None
+  if nat_le 1 n.0 && nat_le n.0 (PAGE_BYTES - PAGE_HEADER_BYTES) then taken_at n.0 n.1 else None
 
 unfoldable pub make_at : List ℕ → Option (Record × List ℕ)
 make_at bytes = do

@@ -1,9 +1,9 @@
 -- The one spelling of each record, group and log in bytes. Numbers have their highest byte first.
 use Rattle.std.specs.Prelude.{◌≡◌, ◌≢◌, ◌≤◌, ◌<◌, ◌+◌, ◌-◌, ◌^◌, ℕ, List, [], ◌∷◌, ◌++◌, length, drop}
+use Rattle.rm_base.specs.declared.limits.TheConstants.{PAGE_BYTES, PAGE_HEADER_BYTES}
 use Rattle.std.specs.List.{flat_map, AllByRecursion}
 use Rattle.rm_base.specs.Fields.{field, AreBytes}
 use Rattle.page_image.specs.declared.kind.Kind.TheVariants.{Unmade}
-use Rattle.page_image.specs.declared.TheConstants.{PAGE_BYTES, HEADER_BYTES}
 use Rattle.page_image.specs.Image.{kind_number, LevelFits}
 use Rattle.redo_record.specs.declared.redo.Record.{Record}
 use Rattle.redo_record.specs.declared.redo.Record.TheVariants.{Make, Patch, InsertSlot, RemoveSlot, Cut, Link}
@@ -44,7 +44,7 @@ log_bytes groups = flat_map group_bytes groups
 
 -- a patch and an item have at least one byte, and fit a page beside its header
 abbrev pub FitsPage : List ℕ → Type 0
-FitsPage bytes = (1 ≤ length bytes) × (length bytes ≤ PAGE_BYTES - HEADER_BYTES)
+FitsPage bytes = (1 ≤ length bytes) × (length bytes ≤ PAGE_BYTES - PAGE_HEADER_BYTES)
 
 -- what decoding asks of a record, beside that its fields are of their types
 abbrev pub IsAdmitted : Record → Type 0

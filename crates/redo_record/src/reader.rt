@@ -3,8 +3,10 @@ ghost use Rattle.page_image.specs.Image.{LevelFits};
 ghost use Rattle.redo_record.specs.Reading.{level_fits, byte_at, number_at, page_number_at, kind_at, counted_at};
 ghost use Rattle.redo_record.specs.Reads.{Reads, ReadsIfMemory};
 
-use page_image::{HEADER_BYTES, Kind, PAGE_BYTES};
-use rm_base::{Bytes, Items, PageId, WantOfMemory, get_u16, get_u32};
+use page_image::Kind;
+use rm_base::{
+    Bytes, Items, PAGE_BYTES, PAGE_HEADER_BYTES, PageId, WantOfMemory, get_u16, get_u32,
+};
 use std::alloc::Global;
 use std::marker::Model;
 
@@ -144,7 +146,7 @@ impl<'a> Reader<'a> {
         ensures { ReadsIfMemory result self.new (counted_at self.old) }
     {
         let n = usize::from(self.u16()?);
-        if n < 1 || n > PAGE_BYTES - HEADER_BYTES || n > self.bytes.len() {
+        if n < 1 || n > PAGE_BYTES - PAGE_HEADER_BYTES || n > self.bytes.len() {
             return Err(Unread::Malformed);
         }
         let mut bytes = Items::new(alloc);

@@ -24,7 +24,14 @@ pub use identifiers::{
 };
 pub use items::{Duplicate, Items};
 pub use key_range::{KeyRange, Ranges};
-pub use names::{LONGEST_NAME, Name, Names};
+pub use limits::{
+    CATALOG_ROOT_PAGE_ID, FIRST_FREE_PAGE_ID, FIRST_STAMP_PAGE_ID, FIRST_UNDO_PAGE_ID,
+    LOG_CHUNK_BYTES, MAX_COLUMNS, MAX_INPUT_BYTES, MAX_KEY_BYTES, MAX_NAME_BYTES, MAX_NODES,
+    MAX_PAGE_ID, MAX_PAGES, MAX_RECORD_BYTES, MAX_SESSIONS, MAX_SLABS, MAX_STATEMENT_BYTES,
+    MAX_STATEMENT_TOKENS, MAX_TREE_LEVEL, MAX_TRX_ID, META_PAGE_ID, PAGE_BYTES, PAGE_HEADER_BYTES,
+    PAGES_PER_CHUNK, RECORD_OVERHEAD_BYTES, SLOTS_PAGE_ID, STAMPS_PER_PAGE,
+};
+pub use names::{Name, Names};
 pub use places::{Addr, Token, UndoPtr};
 
 /// Bytes of a log, a page's item, a key or a stored value.

@@ -15,6 +15,9 @@ pub const MAX_NAME_BYTES: usize = 32;
 /// Columns of a table.
 pub const MAX_COLUMNS: usize = 16;
 
+/// Bytes of a whole input: of the lines that are served, or of a script.
+pub const MAX_INPUT_BYTES: usize = 4_194_304;
+
 /// Bytes of a statement's text.
 pub const MAX_STATEMENT_BYTES: usize = 65_536;
 

@@ -3,11 +3,9 @@ ghost use Rattle.std.specs.Prelude.{◌≡◌, ◌≤◌, ◌<◌, length, SomeI
 use crate::Text;
 use crate::errors::WantOfMemory;
 use crate::items::{Duplicate, Items};
+use crate::limits::MAX_NAME_BYTES;
 use std::alloc::Global;
 use std::marker::Model;
-
-/// The most bytes that a name has.
-pub const LONGEST_NAME: usize = 32;
 
 /// The name of a table, a column or a session: a text of 1 to 32 bytes.
 #[derive(Debug, Drop)]
@@ -33,7 +31,7 @@ impl Name {
     pub fn new(text: Text) -> Option<Name>
         ensures { SomeIff result ((0 < length text) × (length text ≤ 32)) text }
     {
-        if text.is_empty() || text.len() > LONGEST_NAME {
+        if text.is_empty() || text.len() > MAX_NAME_BYTES {
             return None;
         }
         Some(Name { text })

@@ -3,13 +3,10 @@ ghost use Rattle.std.specs.Io.KnownBytes.{Consumes, Keeps, IsAtEnd};
 ghost use Rattle.rm_env.specs.Faults.{Rose};
 ghost use Rattle.rmem_db.specs.Reading.{HasNoLf, IsLineEnd, ReadsMore, ReadsEnd, ReadsPast, ReadsSome, TakesMore};
 
-use rm_base::WantOfMemory;
+use rm_base::{MAX_INPUT_BYTES, WantOfMemory};
 use rm_env::{Failed, Source};
 use std::alloc::{AllocError, Global};
 use std::marker::Model;
-
-/// The most bytes of input that a run answers.
-pub const INPUT_LIMIT: usize = 4_194_304;
 
 /// The most bytes that one read asks for.
 pub const READ_SIZE: usize = 65_536;
@@ -216,19 +213,19 @@ impl Input {
             → ReadsEnd (S.left source.old) (S.left source.new) self.old self.new }
         ensures past { result ≡ Ok Filled.TooLong
             → ReadsPast (S.left source.old) (S.left source.new) self.old self.new }
-        ensures limit { result ≡ Ok Filled.TooLong → self.old.taken ≡ INPUT_LIMIT }
-        ensures few { self.new.taken ≤ INPUT_LIMIT }
+        ensures limit { result ≡ Ok Filled.TooLong → self.old.taken ≡ MAX_INPUT_BYTES }
+        ensures few { self.new.taken ≤ MAX_INPUT_BYTES }
         ensures failed { result ≡ Err ReadNo.Failed → Keeps (S.left source.old) (S.left source.new) }
         ensures cause { result ≡ Err ReadNo.Failed → Rose (S.faults source.old) (S.faults source.new) }
         ensures memory { result ≡ Err ReadNo.WantOfMemory
-            → ReadsSome (S.left source.old) (S.left source.new) (INPUT_LIMIT - self.old.taken) }
+            → ReadsSome (S.left source.old) (S.left source.new) (MAX_INPUT_BYTES - self.old.taken) }
         ensures err { OnErr result (self.new ≡ self.old) }
         ensures count { S.faults source.old ≤ S.faults source.new }
     {
-        if self.taken == INPUT_LIMIT {
+        if self.taken == MAX_INPUT_BYTES {
             return probe(source);
         }
-        let want = READ_SIZE.min(INPUT_LIMIT - self.taken);
+        let want = READ_SIZE.min(MAX_INPUT_BYTES - self.taken);
         let n = take_more(source, self.buffer.as_mut_slice(), &mut self.bytes, want)?;
         self.taken += n;
         Ok(if n == 0 { Filled::End } else { Filled::More })

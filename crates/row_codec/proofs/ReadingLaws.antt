@@ -1,5 +1,6 @@
 -- What is read is what was spelled, and the other way round.
 use Rattle.std.proofs.Common.{◌≡◌, ◌≢◌, ◌≤◌, ◌<◌, ◌+◌, ◌^◌, ◌&&◌, ℕ, zero, suc, Bool, true, false, ℤ, pos, negsuc, ◌+ℤ◌, FitsSigned, nat_eq, nat_le, List, [], ◌∷◌, ◌++◌, length, take, drop, slice_get, Some, None, Option, option_and_then, if◌then◌else◌, ◌⊎◌, inl, inr, refl, sym, ◌∙◌, ap, subst, arith, append_assoc, append-nil, length-append, length-drop, IsSomeAnd, Result, Ok, Err, IfOk}
+use Rattle.rm_base.specs.declared.limits.TheConstants.{MAX_KEY_BYTES, MAX_RECORD_BYTES}
 use Rattle.std.proofs.lemmas.Bool.Decides.{nat_tests}
 use Rattle.std.proofs.lemmas.Int.{ints, of_z-to_z, to_z-of_z}
 use Rattle.std.proofs.lemmas.List.{take-append-drop, drop-drop, get_or-drop, length-take-le}
@@ -15,8 +16,6 @@ use Rattle.sql_values.specs.declared.values.Sort.TheVariants as sort
 use Rattle.sql_values.specs.declared.schemas.Column.{Column}
 use Rattle.sql_values.specs.declared.schemas.Schema.{Schema}
 use Rattle.sql_values.specs.Order.{Fits}
-use Rattle.row_codec.specs.declared.keys.TheConstants.{LONGEST_KEY}
-use Rattle.row_codec.specs.declared.spelling.TheConstants.{LARGEST_RECORD}
 use Rattle.row_codec.specs.Keys.{rank, key_bytes}
 use Rattle.row_codec.specs.Records.{cell_bytes, cells_bytes, record_length, key_cell, FitColumns, AreI64, IsRecord, OneRow}
 use Rattle.row_codec.specs.Reading.{read_int, read_text, read_cell, read_onto, read_key, whole, read_row, IsRowOrNone}
@@ -377,7 +376,7 @@ AreBytes-right (x ∷ xs) ys bs = AreBytes-right xs ys (λ k. bs (suc k))
 row_from : (schema : Schema) (key value : List ℕ) (column : Column) (before : List Value) (k : Value) (after : List Value)
     → slice_get schema.columns schema.key ≡ Some column → FitColumns (take schema.key schema.columns) before → FitColumns (drop (schema.key + 1) schema.columns) after
     → Fits k column.sort → k ≢ Null → AreI64 before → AreI64 (k ∷ after) → key ≡ key_bytes k → value ≡ cells_bytes before ++ cells_bytes after
-    → length key ≤ LONGEST_KEY → record_length key value ≤ LARGEST_RECORD → IsRecord schema (before ++ (k ∷ after)) key value
+    → length key ≤ MAX_KEY_BYTES → record_length key value ≤ MAX_RECORD_BYTES → IsRecord schema (before ++ (k ∷ after)) key value
 row_from schema key value column before k after there f g fk nk i j ek ev hk hv =
     let at : ℕ = schema.key in
     let cols : List Column = schema.columns in
@@ -402,7 +401,7 @@ row_from schema key value column before k after there f g fk nk i j ek ev hk hv 
 
 -- what is read is a row with that key and value
 row_reads : (schema : Schema) (key value : List ℕ) (column : Column) (row : List Value) → AreBytes key → AreBytes value
-    → slice_get schema.columns schema.key ≡ Some column → length key ≤ LONGEST_KEY → record_length key value ≤ LARGEST_RECORD
+    → slice_get schema.columns schema.key ≡ Some column → length key ≤ MAX_KEY_BYTES → record_length key value ≤ MAX_RECORD_BYTES
     → read_row schema.columns schema.key column.sort key value ≡ Some row → IsRecord schema row key value
 row_reads schema key value column row bk bv there hk hv e =
     let at : ℕ = schema.key in
@@ -470,14 +469,14 @@ row_read schema key value column row there r =
 
 -- within the limits, what is read is the row with that key and value, or there is none
 pub row_is : (schema : Schema) (key value : List ℕ) (column : Column) (row : Option (List Value)) → AreBytes key → AreBytes value
-    → slice_get schema.columns schema.key ≡ Some column → length key ≤ LONGEST_KEY → record_length key value ≤ LARGEST_RECORD
+    → slice_get schema.columns schema.key ≡ Some column → length key ≤ MAX_KEY_BYTES → record_length key value ≤ MAX_RECORD_BYTES
     → row ≡ read_row schema.columns schema.key column.sort key value → IsRowOrNone schema key value row
 row_is schema key value column None bk bv there hk hv e = λ r is. none_not_some (e ∙ row_read schema key value column r there is)
 row_is schema key value column (Some row) bk bv there hk hv e = row_reads schema key value column row bk bv there hk hv (sym e)
 
 -- past the limits there is none, and none where the schema lacks its key column
 pub no_row : (schema : Schema) (key value : List ℕ)
-    → (length schema.columns ≤ schema.key) ⊎ ((LONGEST_KEY < length key) ⊎ (LARGEST_RECORD < record_length key value)) → IsRowOrNone schema key value None
+    → (length schema.columns ≤ schema.key) ⊎ ((MAX_KEY_BYTES < length key) ⊎ (MAX_RECORD_BYTES < record_length key value)) → IsRowOrNone schema key value None
 no_row schema key value (inr (inl h)) = λ r is. absurd (let short = is.short_key in omega arith)
 no_row schema key value (inr (inr h)) = λ r is. absurd (let short = is.short_record in omega arith)
 no_row schema key value (inl h) = λ r is.
@@ -501,7 +500,7 @@ one_row schema r s key value is_r is_s =
 
 -- the same of an answer that may want memory
 pub answer_is : {E : Type 0} (schema : Schema) (key value : List ℕ) (column : Column) (r : Result (Option (List Value)) E) → AreBytes key → AreBytes value
-    → slice_get schema.columns schema.key ≡ Some column → length key ≤ LONGEST_KEY → record_length key value ≤ LARGEST_RECORD
+    → slice_get schema.columns schema.key ≡ Some column → length key ≤ MAX_KEY_BYTES → record_length key value ≤ MAX_RECORD_BYTES
     → IfOk r (λ row. row ≡ read_row schema.columns schema.key column.sort key value) → IfOk r (IsRowOrNone schema key value)
 answer_is schema key value column (Err e) bk bv there hk hv h = tt
 answer_is schema key value column (Ok row) bk bv there hk hv h = row_is schema key value column row bk bv there hk hv h

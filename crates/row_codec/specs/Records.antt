@@ -1,5 +1,6 @@
 -- A row as a leaf item's key and value.
 use Rattle.std.specs.Prelude.{◌≡◌, ◌≢◌, ◌≤◌, ◌+◌, ℕ, Bool, nat_le, List, [], ◌∷◌, ◌++◌, length, slice_get, slice_index_or, take, drop, IsSomeAnd, FitsSigned}
+use Rattle.rm_base.specs.declared.limits.TheConstants.{MAX_KEY_BYTES, MAX_RECORD_BYTES, RECORD_OVERHEAD_BYTES}
 use Rattle.std.specs.List.{flat_map}
 use Rattle.std.specs.Int.{w64, cast_unsigned}
 use Rattle.rm_base.specs.Fields.{field}
@@ -8,8 +9,6 @@ use Rattle.sql_values.specs.declared.values.Value.TheVariants.{Null, Int, Text}
 use Rattle.sql_values.specs.declared.schemas.Column.{Column}
 use Rattle.sql_values.specs.declared.schemas.Schema.{Schema}
 use Rattle.sql_values.specs.Order.{Fits}
-use Rattle.row_codec.specs.declared.keys.TheConstants.{LONGEST_KEY}
-use Rattle.row_codec.specs.declared.spelling.TheConstants.{LARGEST_RECORD, RECORD_OVERHEAD}
 use Rattle.row_codec.specs.Keys.{key_bytes}
 
 -- 0 for NULL; 1 and two's complement in 8 bytes for an INT; 2, the length in 2 bytes and the bytes for a TEXT
@@ -31,11 +30,11 @@ key_cell key row = slice_index_or row key Null
 
 -- the bytes of a leaf item with that key and value: both, and 16 bytes beside them
 abbrev pub record_length : List ℕ → List ℕ → ℕ
-record_length key value = RECORD_OVERHEAD + length key + length value
+record_length key value = RECORD_OVERHEAD_BYTES + length key + length value
 
 -- whether the leaf item of a row, whose key is the cell at that place, is not too large
 abbrev pub fits_record : ℕ → List Value → Bool
-fits_record key row = nat_le (record_length (key_bytes (key_cell key row)) (value_bytes key row)) LARGEST_RECORD
+fits_record key row = nat_le (record_length (key_bytes (key_cell key row)) (value_bytes key row)) MAX_RECORD_BYTES
 
 -- the cells fit the columns, one for one
 abbrev pub FitColumns : List Column → List Value → Type 0
@@ -66,8 +65,8 @@ pub record IsRecord (schema : Schema) (row : List Value) (key value : List ℕ) 
   pub ints : AreI64 row
   pub key_is : key ≡ key_bytes (key_cell schema.key row)
   pub value_is : value ≡ value_bytes schema.key row
-  pub short_key : length key ≤ LONGEST_KEY
-  pub short_record : record_length key value ≤ LARGEST_RECORD
+  pub short_key : length key ≤ MAX_KEY_BYTES
+  pub short_record : record_length key value ≤ MAX_RECORD_BYTES
 
 -- a key and a value are those of one row alone
 abbrev pub OneRow : Type 0

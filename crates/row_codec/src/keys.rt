@@ -3,17 +3,14 @@ ghost use Rattle.std.specs.Result.{OkIff};
 ghost use Rattle.row_codec.specs.Keys.{key_bytes, OrderedAsKeys, TellKeysApart};
 
 use crate::TooLarge;
-use rm_base::{Bytes, WantOfMemory, put_u64};
+use rm_base::{Bytes, MAX_KEY_BYTES, WantOfMemory, put_u64};
 use sql_values::Value;
 use std::alloc::Global;
-
-/// The most bytes that a key has.
-pub const LONGEST_KEY: usize = 64;
 
 /// The bytes of a key: 8 for an INT, the text's own for a TEXT. Refused exactly past 64 bytes.
 pub fn key_of(alloc: Global, value: &Value) -> Result<Result<Bytes, TooLarge>, WantOfMemory>
     requires { value.now ≢ Value.Null }
-    ensures { IfOk result (λ key. OkIff key (length (key_bytes value.now) ≤ LONGEST_KEY) (key_bytes value.now)) }
+    ensures { IfOk result (λ key. OkIff key (length (key_bytes value.now) ≤ MAX_KEY_BYTES) (key_bytes value.now)) }
 {
     let mut key = Bytes::new(alloc);
     match value {
@@ -24,7 +21,7 @@ pub fn key_of(alloc: Global, value: &Value) -> Result<Result<Bytes, TooLarge>, W
             key.append(&bytes)?;
         }
         Value::Text(text) => {
-            if text.len() > LONGEST_KEY {
+            if text.len() > MAX_KEY_BYTES {
                 return Ok(Err(TooLarge));
             }
             key.append(text.as_slice())?;

@@ -2,7 +2,7 @@ ghost use Rattle.std.specs.Prelude.{◌≡◌, ◌≤◌, ◌+◌, ◌-◌, ◌^
 ghost use Rattle.row_codec.specs.Keys.{key_bytes};
 ghost use Rattle.row_codec.specs.Records.{cell_bytes, cells_bytes, fits_record, key_cell, record_length, value_bytes};
 
-use crate::spelling::{LARGEST_RECORD, RECORD_OVERHEAD};
+use rm_base::{MAX_RECORD_BYTES, RECORD_OVERHEAD_BYTES};
 use sql_values::Value;
 
 /// Whether the leaf item of a row of these cells, whose key is the one at that place, is not too large.
@@ -12,11 +12,11 @@ pub fn fits_record(key: usize, cells: &[Value]) -> bool
     let at = key.min(cells.len());
     let before = cells_length(&cells[..at]);
     let after = cells_length(&cells[(key.saturating_add(1)).min(cells.len())..]);
-    RECORD_OVERHEAD
+    RECORD_OVERHEAD_BYTES
         .saturating_add(key_length(cells, key))
         .saturating_add(before)
         .saturating_add(after)
-        <= LARGEST_RECORD
+        <= MAX_RECORD_BYTES
 }
 
 #[tactic(auto, using(crate::proofs::SpellingLaws::field_length))]

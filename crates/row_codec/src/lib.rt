@@ -11,10 +11,10 @@ mod spelling;
 mod tests;
 
 pub use fitting::fits_schema;
-pub use keys::{LONGEST_KEY, key_laws, key_of};
+pub use keys::{key_laws, key_of};
 pub use lengths::fits_record;
 pub use reading::{row_laws, row_of};
-pub use spelling::{LARGEST_RECORD, RECORD_OVERHEAD, value_of};
+pub use spelling::value_of;
 use thiserror::Error;
 
 /// A key or a row is larger than a leaf item may be.

@@ -2,9 +2,9 @@ ghost use Rattle.std.specs.Prelude.{◌≡◌, ◌≤◌, ◌<◌, ◌+◌, [], 
 ghost use Rattle.row_codec.specs.Records.{OneRow};
 ghost use Rattle.row_codec.specs.Reading.{read_cell, read_int, read_text, read_key, read_onto, read_row, whole, IsRowOrNone};
 
-use crate::keys::LONGEST_KEY;
-use crate::spelling::{LARGEST_RECORD, RECORD_OVERHEAD};
-use rm_base::{Bytes, WantOfMemory, get_u16, get_u64};
+use rm_base::{
+    Bytes, MAX_KEY_BYTES, MAX_RECORD_BYTES, RECORD_OVERHEAD_BYTES, WantOfMemory, get_u16, get_u64,
+};
 use sql_values::{Column, Row, Schema, Sort, Value};
 use std::alloc::Global;
 
@@ -19,10 +19,10 @@ pub fn row_of(
 {
     let at = usize::from(schema.key);
     let columns = schema.columns.as_slice();
-    if at >= columns.len() || key.len() > LONGEST_KEY {
+    if at >= columns.len() || key.len() > MAX_KEY_BYTES {
         return Ok(None);
     }
-    if value.len() > LARGEST_RECORD - RECORD_OVERHEAD - key.len() {
+    if value.len() > MAX_RECORD_BYTES - RECORD_OVERHEAD_BYTES - key.len() {
         return Ok(None);
     }
     let sort = columns[at].sort;

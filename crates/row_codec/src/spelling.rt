@@ -5,15 +5,9 @@ ghost use Rattle.row_codec.specs.Records.{cell_bytes, cells_bytes, value_bytes, 
 
 use crate::TooLarge;
 use crate::lengths::fits_record;
-use rm_base::{Bytes, WantOfMemory, put_u16, put_u64};
+use rm_base::{Bytes, MAX_RECORD_BYTES, WantOfMemory, put_u16, put_u64};
 use sql_values::{Row, Schema, Value};
 use std::alloc::Global;
-
-/// The most bytes of a leaf item.
-pub const LARGEST_RECORD: usize = 1000;
-
-/// The bytes of a leaf item beside its key and its value.
-pub const RECORD_OVERHEAD: usize = 16;
 
 /// The value of a row's leaf item: the cells of all columns but the key, in order. Refused exactly where
 /// the item would pass 1,000 bytes.
@@ -23,7 +17,7 @@ pub fn value_of(
     row: &Row,
 ) -> Result<Result<Bytes, TooLarge>, WantOfMemory>
     requires { FitsSchema schema.now row.now }
-    ensures { IfOk result (λ value. OkIff value (record_length (key_bytes (key_cell schema.now.key row.now)) (value_bytes schema.now.key row.now) ≤ LARGEST_RECORD) (value_bytes schema.now.key row.now)) }
+    ensures { IfOk result (λ value. OkIff value (record_length (key_bytes (key_cell schema.now.key row.now)) (value_bytes schema.now.key row.now) ≤ MAX_RECORD_BYTES) (value_bytes schema.now.key row.now)) }
 {
     let key = usize::from(schema.key);
     let cells = row.as_slice();
@@ -37,7 +31,7 @@ pub fn value_of(
 }
 
 fn append_cells(value: &mut Bytes, cells: &[Value]) -> Result<(), WantOfMemory>
-    requires { length (cells_bytes cells.now) ≤ LARGEST_RECORD }
+    requires { length (cells_bytes cells.now) ≤ MAX_RECORD_BYTES }
     ensures { OnOk result (value.new ≡ value.old ++ cells_bytes cells.now) }
 {
     for cell in cells {
@@ -47,7 +41,7 @@ fn append_cells(value: &mut Bytes, cells: &[Value]) -> Result<(), WantOfMemory>
 }
 
 fn append_cell(value: &mut Bytes, cell: &Value) -> Result<(), WantOfMemory>
-    requires { length (cell_bytes cell.now) ≤ LARGEST_RECORD }
+    requires { length (cell_bytes cell.now) ≤ MAX_RECORD_BYTES }
     ensures { OnOk result (value.new ≡ value.old ++ cell_bytes cell.now) }
 {
     match cell {

@@ -1,5 +1,6 @@
 -- A table as a row of the catalog.
 use Rattle.std.specs.Prelude.{◌≡◌, ◌≢◌, ◌≤◌, ◌<◌, ℕ, List, [], ◌∷◌, ◌++◌, length, drop, Option, MatchOption}
+use Rattle.rm_base.specs.declared.limits.TheConstants.{MAX_COLUMNS}
 use Rattle.std.specs.List.{AllByRecursion, flat_map}
 use Rattle.rm_base.specs.Fields.{field}
 use Rattle.sql_values.specs.declared.values.Value.{Value}
@@ -8,7 +9,6 @@ use Rattle.sql_values.specs.declared.values.Sort.{Sort}
 use Rattle.sql_values.specs.declared.values.Sort.TheVariants as sort
 use Rattle.sql_values.specs.declared.schemas.Column.{Column}
 use Rattle.sql_values.specs.declared.schemas.Schema.{Schema}
-use Rattle.sql_catalog.specs.declared.TheConstants.{MOST_COLUMNS}
 
 abbrev pub sort_number : Sort → ℕ
 sort_number sort.Int = 1
@@ -44,7 +44,7 @@ Differ (c ∷ cs) = AllByRecursion (λ d. d.name ≢ c.name) cs × Differ cs
 -- a schema that a table can have: 1 to 16 columns of different names, one of which is the key
 pub record IsTable (s : Schema) : Type 0 where
   pub some : 1 ≤ length s.columns
-  pub few : length s.columns ≤ MOST_COLUMNS
+  pub few : length s.columns ≤ MAX_COLUMNS
   pub differ : Differ s.columns
   pub key : s.key < length s.columns
 

@@ -10,6 +10,3 @@ mod tests;
 pub use reading::{catalog_laws, schema_of};
 pub use spelling::row_for;
 pub use tables::is_table;
-
-/// The most columns that a table has.
-pub const MOST_COLUMNS: usize = 16;

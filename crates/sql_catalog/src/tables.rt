@@ -2,7 +2,7 @@ ghost use Rattle.std.specs.Prelude.{◌≢◌, IsTrue, ◌↔◌};
 ghost use Rattle.std.specs.List.{AllByRecursion};
 ghost use Rattle.sql_catalog.specs.Catalog.{IsTable, Differ};
 
-use crate::MOST_COLUMNS;
+use rm_base::MAX_COLUMNS;
 use sql_values::{Column, Schema};
 
 /// Whether a table can have the schema: 1 to 16 columns of different names, one of which is the key.
@@ -11,7 +11,7 @@ pub fn is_table(schema: &Schema) -> bool
 {
     let columns = schema.columns.as_slice();
     !columns.is_empty()
-        && columns.len() <= MOST_COLUMNS
+        && columns.len() <= MAX_COLUMNS
         && usize::from(schema.key) < columns.len()
         && differ(columns)
 }

@@ -1,9 +1,9 @@
 -- What holds of each database that a store has, and what can be changed in one.
 use Rattle.std.specs.Prelude.{◌≡◌, ◌≢◌, ◌≤◌, ℕ, List, codes, length, Option, Some, None}
+use Rattle.rm_base.specs.declared.limits.TheConstants.{MAX_KEY_BYTES}
 use Rattle.std.specs.List.{AllByRecursion}
 use Rattle.sql_values.specs.declared.schemas.Schema.{Schema}
 use Rattle.sql_values.specs.declared.values.Value.{Value}
-use Rattle.row_codec.specs.declared.keys.TheConstants.{LONGEST_KEY}
 use Rattle.row_codec.specs.Records.{AreI64, FitsSchema, IsRecord, value_bytes}
 use Rattle.sql_catalog.specs.Catalog.{IsName, IsNamed, IsTable}
 use Rattle.sql_meaning.specs.Names.{table_named}
@@ -41,5 +41,5 @@ IsPlaced schema key (Some row) = IsRecord schema row key (value_bytes schema.key
 pub record CanChange (schemas : List Schema) (c : Change) : Type 0 where
   pub schema : Schema
   pub named : table_named schemas c.table ≡ Some schema
-  pub short : length c.key ≤ LONGEST_KEY
+  pub short : length c.key ≤ MAX_KEY_BYTES
   pub placed : IsPlaced schema c.key c.row

@@ -1,19 +1,19 @@
 -- Changes of rows, and the keys that they need.
 use Rattle.std.specs.Prelude.{ℕ, Bool, ◌&&◌, nat_le, if◌then◌else◌, List, [], ◌∷◌, ◌++◌, map, length, Option, Some, None, Result, Ok, Err}
+use Rattle.rm_base.specs.declared.limits.TheConstants.{MAX_KEY_BYTES}
 use Rattle.std.specs.List.{list_any}
 use Rattle.std.specs.Ordering.{is_eq}
 use Rattle.sql_values.specs.declared.values.Value.{Value}
 use Rattle.sql_values.specs.declared.schemas.Schema.{Schema}
 use Rattle.sql_values.specs.Order.{value_cmp}
 use Rattle.row_codec.specs.declared.TooLarge.{TooLarge}
-use Rattle.row_codec.specs.declared.keys.TheConstants.{LONGEST_KEY}
 use Rattle.row_codec.specs.Keys.{key_bytes}
 use Rattle.row_codec.specs.Records.{fits_record, key_cell}
 use Rattle.sql_database.specs.declared.changes.Change.{Change}
 
 -- the limit of a key
 abbrev pub fits_key : List ℕ → Bool
-fits_key key = nat_le (length key) LONGEST_KEY
+fits_key key = nat_le (length key) MAX_KEY_BYTES
 
 -- the row that stands under its key from now on
 unfoldable pub placing : Schema → List Value → Result Change TooLarge

@@ -4,8 +4,8 @@ ghost use Rattle.row_codec.specs.Keys.{key_bytes};
 ghost use Rattle.row_codec.specs.Records.{fits_record, key_cell};
 ghost use Rattle.sql_exec.specs.Changes.{placing, removal};
 
-use rm_base::{Bytes, Duplicate, WantOfMemory};
-use row_codec::{LONGEST_KEY, TooLarge, fits_record, key_of};
+use rm_base::{Bytes, Duplicate, MAX_KEY_BYTES, WantOfMemory};
+use row_codec::{TooLarge, fits_record, key_of};
 use sql_database::Change;
 use sql_values::{Row, Schema, Value};
 use std::alloc::Global;
@@ -56,7 +56,7 @@ fn bytes_at(
     row: &[Value],
     place: usize,
 ) -> Result<Result<Bytes, TooLarge>, WantOfMemory>
-    ensures { IfOk result (λ r. OkIff r (length (key_bytes (key_cell place row.now)) ≤ LONGEST_KEY) (key_bytes (key_cell place row.now))) }
+    ensures { IfOk result (λ r. OkIff r (length (key_bytes (key_cell place row.now)) ≤ MAX_KEY_BYTES) (key_bytes (key_cell place row.now))) }
 {
     match row.get(place) {
         None | Some(Value::Null) => Ok(Ok(Bytes::new(alloc))),

@@ -10,14 +10,11 @@ ghost use Rattle.sql_front.specs.ReadStmt as spec;
 use crate::input::Input;
 use crate::lists::{Item, list};
 use crate::stopping::Stop;
-use rm_base::{Items, Name, WantOfMemory};
+use rm_base::{Items, MAX_COLUMNS, Name, WantOfMemory};
 use sql_statements::Stmt;
 use sql_values::{Column, Schema, Sort};
 use sql_words::{Class, Sign, Word};
 use std::alloc::Global;
-
-/// The most columns of a table.
-pub const MOST_COLUMNS: usize = 16;
 
 /// A column of CREATE, and whether it is the key.
 #[derive(Drop)]
@@ -45,7 +42,7 @@ fn is_named(before: &[Definition], name: &Name) -> bool
 fn is_new_column(before: &[Definition], name: &Name) -> bool
     ensures { result ≡ conditions.is_new_column before.now name.now }
 {
-    before.len() < MOST_COLUMNS && !is_named(before, name)
+    before.len() < MAX_COLUMNS && !is_named(before, name)
 }
 
 #[tactic(auto, unfolding(crate::specs::ReadStmt::sort_word))]

@@ -20,7 +20,7 @@ mod stopping;
 mod tests;
 
 pub use laws::{created_tables, one_meaning};
-pub use parsing::{LONGEST_TEXT, Syntax, parse};
+pub use parsing::{Syntax, parse};
 pub use rendering::print;
 pub use sql_statements::{
     Agg, Aggs, Expr, ExprRows, Exprs, Join, Op, OrderKey, Orders, Select, Selected, SetItem, Sets,

@@ -10,14 +10,11 @@ ghost use Rattle.sql_front.specs.Symbols.{symbol_of};
 use crate::commands::statement;
 use crate::input::Input;
 use crate::stopping::Stop;
-use rm_base::WantOfMemory;
+use rm_base::{MAX_STATEMENT_BYTES, WantOfMemory};
 use sql_statements::Stmt;
 use sql_words::{Token, one_reading, scan};
 use std::alloc::Global;
 use thiserror::Error;
-
-/// The most bytes of a statement.
-pub const LONGEST_TEXT: usize = 65_536;
 
 /// The text is no statement. `at` is the offset of the first token with which no statement goes on.
 #[derive(Clone, Copy, Debug, PartialEq, Eq, Error)]
@@ -55,9 +52,9 @@ fn place(tokens: &[Token<'_>], left: usize, end: usize) -> usize
 fn limited(len: usize, at: usize) -> Syntax
     ensures { result.at ≡ spec.limited len at }
 {
-    if len > LONGEST_TEXT {
+    if len > MAX_STATEMENT_BYTES {
         Syntax {
-            at: at.min(LONGEST_TEXT),
+            at: at.min(MAX_STATEMENT_BYTES),
         }
     } else {
         Syntax { at }
@@ -75,7 +72,7 @@ pub fn parse(alloc: Global, text: &[u8]) -> Result<Result<Stmt, Syntax>, WantOfM
     let end = reading.fault.unwrap_or(text.len());
     match read(alloc, tokens)? {
         Ok(stmt) => {
-            if reading.fault.is_none() && text.len() <= LONGEST_TEXT {
+            if reading.fault.is_none() && text.len() <= MAX_STATEMENT_BYTES {
                 Ok(Ok(stmt))
             } else {
                 drop(stmt);

@@ -7,7 +7,7 @@ ghost use Rattle.sql_front.specs.ReadExpr as spec;
 use crate::input::Input;
 use crate::levels::Level;
 use crate::stopping::Stop;
-use rm_base::Name;
+use rm_base::{MAX_STATEMENT_TOKENS, Name};
 use sql_statements::{Expr, Op};
 use sql_values::Value;
 use sql_words::{Class, Sign, Word};
@@ -237,9 +237,6 @@ pub fn whole(alloc: Global, input: &mut Input<'_, '_>, room: usize) -> Result<Ex
     chain(alloc, input, Level::Or, room)
 }
 
-/// The most tokens that an expression has.
-pub const LONGEST: usize = 256;
-
 /// Whether the next token goes on with an expression.
 #[tactic(auto, unfolding(crate::specs::ReadExpr::goes_on))]
 fn goes_on(input: &Input<'_, '_>) -> bool
@@ -258,9 +255,9 @@ fn goes_on(input: &Input<'_, '_>) -> bool
 pub fn expression(alloc: Global, input: &mut Input<'_, '_>) -> Result<Expr, Stop>
     ensures { Reads (spec.expression input.old) result input.new }
 {
-    let mut window = input.window(LONGEST);
+    let mut window = input.window(MAX_STATEMENT_TOKENS);
     let len = window.len();
-    let read = whole(alloc, &mut window, LONGEST);
+    let read = whole(alloc, &mut window, MAX_STATEMENT_TOKENS);
     let left = window.len();
     input.pass(len.saturating_sub(left));
     match read {

@@ -9,8 +9,7 @@ use crate::quotes::closing;
 use crate::reserved::reserved;
 use crate::signs::Sign;
 use crate::tokens::Class;
-
-const LONGEST_NAME: usize = 32;
+use rm_base::MAX_NAME_BYTES;
 
 /// The number after the greatest one, which is allowed behind a minus.
 const PAST_THE_GREATEST: u64 = 9223372036854775808;
@@ -62,7 +61,7 @@ fn word(joined: bool, bytes: &[u8]) -> Result<Front, usize>
     match reserved(&bytes[..len]) {
         Some(word) => found(Class::Reserved(word), len),
         None => {
-            if len <= LONGEST_NAME {
+            if len <= MAX_NAME_BYTES {
                 found(Class::Name, len)
             } else {
                 Err(0)

@@ -1,12 +1,12 @@
 -- A plan that carries a tree, and then begins another one.
 use Rattle.std.proofs.Common.{◌≡◌, ◌≢◌, ◌≤◌, ◌<◌, ◌+◌, ◌-◌, ℕ, List, [], ◌∷◌, ◌++◌, length, Option, None, refl, sym, ap, subst, ◌∙◌, arith, inl, inr}
+use Rattle.rm_base.specs.declared.limits.TheConstants.{PAGE_BYTES, PAGE_HEADER_BYTES}
 use Rattle.std.specs.Prelude.{◌⊎◌, Contains, nat_eq}
 use Rattle.std.specs.List.{AllByRecursion, IsDistinct}
 use Rattle.std.proofs.lemmas.List.{length-append}
 use Rattle.std.proofs.lemmas.Bool.Decides.{eqb_tells}
 use Rattle.rm_base.specs.Fields.{field}
 use Rattle.page_image.specs.declared.kind.Kind.TheVariants.{Unmade, Meta, Leaf}
-use Rattle.page_image.specs.declared.TheConstants.{PAGE_BYTES, HEADER_BYTES}
 use Rattle.page_image.specs.Image.{Image, unmade, has_body, made, patched}
 use Rattle.page_image.specs.Rules.{IsImage}
 use Rattle.redo_record.specs.declared.redo.Record.{Record}

@@ -1,5 +1,6 @@
 -- The plans that change one item carry a tree to the tree of the changed items.
 use Rattle.std.proofs.Common.{◌≡◌, ◌≢◌, ◌<◌, ◌≤◌, ◌+◌, ◌-◌, ℕ, suc, Bool, true, false, cond, eqb, List, [], ◌∷◌, ◌++◌, length, take, drop, get_or, Option, None, refl, sym, ap, subst, ◌∙◌, arith, inl, inr}
+use Rattle.rm_base.specs.declared.limits.TheConstants.{PAGE_BYTES, PAGE_HEADER_BYTES}
 use Rattle.std.specs.Prelude.{nat_eq, insert, remove, Contains}
 use Rattle.std.specs.List.{AllByRecursion, IsDistinct}
 use Rattle.std.proofs.lemmas.List.{length-append, length-take-le, take_at, drop_at, take-append-drop}
@@ -9,7 +10,6 @@ use Rattle.std.proofs.lemmas.Bool.Decides.{eqb_tells}
 use Rattle.rm_base.proofs.FieldLaws.{length-field}
 use Rattle.page_image.specs.declared.kind.Kind.{Kind}
 use Rattle.page_image.specs.declared.kind.Kind.TheVariants.{Leaf}
-use Rattle.page_image.specs.declared.TheConstants.{PAGE_BYTES, HEADER_BYTES}
 use Rattle.page_image.specs.Image.{Image, used, free_of, is_slotted, inserted, removed, CanInsert, CanRemove}
 use Rattle.page_view.specs.declared.leaf.LeafItem.{LeafItem}
 use Rattle.page_view.specs.Leaf.{leaf_bytes, IsLeaf}
@@ -154,7 +154,7 @@ leaf_within key path w page c =
 leaf_number : (key : List ℕ) (path : List Image) (w : IsWayTo key path) (a : At key path w (length path - 1) 0) → (w.pages a.page).page ≡ a.page
 leaf_number key path w a = a.spot.part.0.number
 
-pub free_of_leaf : (im : Image) → im.kind ≡ Leaf → free_of im ≡ PAGE_BYTES - HEADER_BYTES - used im.items
+pub free_of_leaf : (im : Image) → im.kind ≡ Leaf → free_of im ≡ PAGE_BYTES - PAGE_HEADER_BYTES - used im.items
 free_of_leaf im e = let s : is_slotted im.kind ≡ true = ap is_slotted e in rw s refl
 
 pub size_is : (item : LeafItem) → length (leaf_bytes item) + 2 ≡ size_of item
@@ -166,7 +166,7 @@ some_bytes : (item : LeafItem) → 1 ≤ length (leaf_bytes item)
 some_bytes item = omega arith
 
 -- a leaf item fits a page
-fits_page : (item : LeafItem) → IsLeaf item → (1 ≤ length (leaf_bytes item)) × (length (leaf_bytes item) ≤ PAGE_BYTES - HEADER_BYTES)
+fits_page : (item : LeafItem) → IsLeaf item → (1 ≤ length (leaf_bytes item)) × (length (leaf_bytes item) ≤ PAGE_BYTES - PAGE_HEADER_BYTES)
 fits_page item is = let size = size_is item in let short = is.short in (some_bytes item, omega (arith, size, short))
 
 -- ---- an item put in
@@ -328,7 +328,7 @@ remove_carries path key rows found = record {
 update_rows : (im : Image) (item : LeafItem) (page : ℕ) → im.page ≡ page → AllByRecursion (ChangesItems page) (update_plan im item).records
 update_rows im item page e = (e, (e, tt))
 
-room_again : (im : Image) (item : LeafItem) (lsn : ℕ) → HasRows im → HasKey item.key im → size_of item ≤ room_for item.key im → used im.items ≤ PAGE_BYTES - HEADER_BYTES
+room_again : (im : Image) (item : LeafItem) (lsn : ℕ) → HasRows im → HasKey item.key im → size_of item ≤ room_for item.key im → used im.items ≤ PAGE_BYTES - PAGE_HEADER_BYTES
     → CanInsert (removed im (lesser item.key im.items) lsn) (lesser item.key im.items) (leaf_bytes item)
 room_again im item lsn h found room fits =
     let p = found_place item.key im h found in
@@ -350,7 +350,7 @@ room_again im item lsn h found room fits =
       room = omega (arith, free, free', one, left, at_used, size, room, fits);
     }
 
-update_apply : (im : Image) (item : LeafItem) (lsn : ℕ) → HasRows im → HasKey item.key im → size_of item ≤ room_for item.key im → used im.items ≤ PAGE_BYTES - HEADER_BYTES
+update_apply : (im : Image) (item : LeafItem) (lsn : ℕ) → HasRows im → HasKey item.key im → size_of item ≤ room_for item.key im → used im.items ≤ PAGE_BYTES - PAGE_HEADER_BYTES
     → RecordsApply lsn (update_plan im item).records im
 update_apply im item lsn rows found room fits =
     let place = lesser item.key im.items in
@@ -377,7 +377,7 @@ update_leaf im page lsn low high items item h is found rows f b =
     subst (λ (i : Image). IsLeafPage i page low high (with_item item.key (leaf_bytes item) items)) (sym (one ∙ step_own second lsn (removed im place lsn) refl)) done
 
 pub update_carries : (path : List Image) (item : LeafItem) → IsLeaf item → HasRows (leaf_on path) → HasKey item.key (leaf_on path)
-    → size_of item ≤ room_for item.key (leaf_on path) → used (leaf_on path).items ≤ PAGE_BYTES - HEADER_BYTES
+    → size_of item ≤ room_for item.key (leaf_on path) → used (leaf_on path).items ≤ PAGE_BYTES - PAGE_HEADER_BYTES
     → Carries item.key path (update_plan (leaf_on path) item) (with_item item.key (leaf_bytes item))
 update_carries path item is rows found room fits = record {
   group = record { some = omega arith; most = omega arith; each = (tt, (fits_page item is, tt)) };

@@ -1,5 +1,6 @@
 -- The records of a plan are those of one group, and the meta page's count after them.
 use Rattle.std.proofs.Common.{◌≡◌, ◌≢◌, ◌<◌, ◌≤◌, ◌+◌, ◌-◌, ◌*◌, ◌^◌, ℕ, suc, Bool, true, false, cond, eqb, List, [], ◌∷◌, ◌++◌, length, take, drop, get_or, refl, sym, ap, subst, ◌∙◌, arith, inl, inr}
+use Rattle.rm_base.specs.declared.limits.TheConstants.{PAGE_BYTES, PAGE_HEADER_BYTES}
 use Rattle.std.specs.Prelude.{◌⊎◌}
 use Rattle.std.specs.List.{AllByRecursion}
 use Rattle.std.proofs.lemmas.List.{length-append, length-take, length-take-le, length-drop, drop_at}
@@ -7,7 +8,6 @@ use Rattle.std.proofs.lemmas.List.Elements.{All-from_recursion, All-get_or}
 use Rattle.rm_base.specs.Fields.{field, number}
 use Rattle.rm_base.proofs.FieldLaws.{length-field, number-field}
 use Rattle.page_image.specs.declared.kind.Kind.TheVariants.{Unmade, Leaf, Inner}
-use Rattle.page_image.specs.declared.TheConstants.{PAGE_BYTES, HEADER_BYTES}
 use Rattle.page_image.specs.Image.{Image, used, is_inner, LevelFits, patched}
 use Rattle.page_view.specs.Leaf.{HoldsLeaf}
 use Rattle.page_view.specs.Keys.{key_in}
@@ -27,7 +27,7 @@ AllAdmitted records = AllByRecursion IsAdmitted records
 
 -- ---- items that join a page
 
-admitted_inserts : (page at : ℕ) (xs : List (List ℕ)) → AllByRecursion (λ x. 1 ≤ length x) xs → used xs ≤ PAGE_BYTES - HEADER_BYTES → AllAdmitted (inserts page at xs)
+admitted_inserts : (page at : ℕ) (xs : List (List ℕ)) → AllByRecursion (λ x. 1 ≤ length x) xs → used xs ≤ PAGE_BYTES - PAGE_HEADER_BYTES → AllAdmitted (inserts page at xs)
 admitted_inserts page at [] some room = tt
 admitted_inserts page at (x ∷ xs) some room =
     let all = used-cons x xs in (
@@ -92,20 +92,20 @@ length-key_in item =
     let b = length-drop 1 item in
     omega (arith, a, b)
 
-fits_entry : (key : List ℕ) (child : ℕ) → length key ≤ 1000 → (1 ≤ length (entry_of key child)) × (length (entry_of key child) ≤ PAGE_BYTES - HEADER_BYTES)
+fits_entry : (key : List ℕ) (child : ℕ) → length key ≤ 1000 → (1 ≤ length (entry_of key child)) × (length (entry_of key child) ≤ PAGE_BYTES - PAGE_HEADER_BYTES)
 fits_entry key child short =
     let a = length-append key (field 4 child) in
     let f = length-field 4 child in
     (omega arith, omega (arith, a, f, short))
 
 fits_separator : (page : Image) (at child : ℕ) → IsTreePage page → at < length page.items
-    → (1 ≤ length (entry_of (separator page at) child)) × (length (entry_of (separator page at) child) ≤ PAGE_BYTES - HEADER_BYTES)
+    → (1 ≤ length (entry_of (separator page at) child)) × (length (entry_of (separator page at) child) ≤ PAGE_BYTES - PAGE_HEADER_BYTES)
 fits_separator page at child tree within =
     let item = short_item page at tree within in
     let key = length-key_in (get_or page.items at []) in
     fits_entry (separator page at) child (omega (arith, item, key))
 
-pub fits_count : (n : ℕ) → (1 ≤ length (field 4 n)) × (length (field 4 n) ≤ PAGE_BYTES - HEADER_BYTES)
+pub fits_count : (n : ℕ) → (1 ≤ length (field 4 n)) × (length (field 4 n) ≤ PAGE_BYTES - PAGE_HEADER_BYTES)
 fits_count n = let f = length-field 4 n in (omega (arith, f), omega (arith, f))
 
 -- ---- the plans
@@ -115,7 +115,7 @@ made_of page (inl rows) e = let h : Leaf ≡ Unmade = sym rows.kind ∙ e in cc
 made_of page (inr children) e = let h : Inner ≡ Unmade = sym children.kind ∙ e in cc
 
 pub split_group : (key : List ℕ) (parent page meta : Image) (at : ℕ) → IsTreePage page → at < length page.items → LevelFits page.kind page.level
-    → AllByRecursion (λ x. 1 ≤ length x) (right_half page at) → used (right_half page at) ≤ PAGE_BYTES - HEADER_BYTES → page.next ≤ 32767 → count_of meta ≤ 32767
+    → AllByRecursion (λ x. 1 ≤ length x) (right_half page at) → used (right_half page at) ≤ PAGE_BYTES - PAGE_HEADER_BYTES → page.next ≤ 32767 → count_of meta ≤ 32767
     → MakeGroup (split_records key parent page at meta)
 split_group key parent page meta at tree within level some room next bound =
     let new : ℕ = count_of meta in
@@ -140,8 +140,8 @@ split_group key parent page meta at tree within level some room next bound =
     }
 
 pub root_group : (root meta : Image) (at : ℕ) → IsTreePage root → at < length root.items → LevelFits root.kind root.level → root.level < 8
-    → AllByRecursion (λ x. 1 ≤ length x) (take at root.items) → used (take at root.items) ≤ PAGE_BYTES - HEADER_BYTES
-    → AllByRecursion (λ x. 1 ≤ length x) (right_half root at) → used (right_half root at) ≤ PAGE_BYTES - HEADER_BYTES → count_of meta + 1 ≤ 32767
+    → AllByRecursion (λ x. 1 ≤ length x) (take at root.items) → used (take at root.items) ≤ PAGE_BYTES - PAGE_HEADER_BYTES
+    → AllByRecursion (λ x. 1 ≤ length x) (right_half root at) → used (right_half root at) ≤ PAGE_BYTES - PAGE_HEADER_BYTES → count_of meta + 1 ≤ 32767
     → MakeGroup (root_split_records root at meta)
 root_group root meta at tree within level low some_left room_left some_right room_right bound =
     let left : ℕ = count_of meta in
@@ -178,7 +178,7 @@ root_group root meta at tree within level low some_left room_left some_right roo
 
 -- ---- the count
 
-pub counted : (meta : Image) (n lsn : ℕ) → IsMeta meta → length meta.body ≡ PAGE_BYTES - HEADER_BYTES → n < 256 ^ 4 → Counts (patched meta COUNT_AT (field 4 n) lsn) n
+pub counted : (meta : Image) (n lsn : ℕ) → IsMeta meta → length meta.body ≡ PAGE_BYTES - PAGE_HEADER_BYTES → n < 256 ^ 4 → Counts (patched meta COUNT_AT (field 4 n) lsn) n
 counted meta n lsn is long fits =
     let rest : List ℕ = drop (4 + length (field 4 n)) meta.body in
     let front : length (take 4 meta.body) ≡ 4 = length-take-le 4 meta.body (omega (arith, long)) in

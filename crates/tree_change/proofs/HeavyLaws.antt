@@ -1,8 +1,8 @@
 -- A page with too little room takes more than half a page.
 use Rattle.std.proofs.Common.{◌≡◌, ◌<◌, ◌-◌, ℕ, true, false, List, refl, ap, arith, inl, inr}
+use Rattle.rm_base.specs.declared.limits.TheConstants.{PAGE_BYTES, PAGE_HEADER_BYTES}
 use Rattle.std.proofs.lemmas.Bool.Decides.{nat_tests}
 use Rattle.page_image.specs.declared.kind.Kind.TheVariants.{Leaf, Inner}
-use Rattle.page_image.specs.declared.TheConstants.{PAGE_BYTES, HEADER_BYTES}
 use Rattle.page_image.specs.Image.{Image, used, is_inner, is_slotted, free_of}
 use Rattle.page_view.specs.declared.leaf.LeafItem.{LeafItem}
 use Rattle.page_view.specs.Leaf.{IsLeaf, HoldsLeaf}
@@ -37,7 +37,7 @@ leaf_full item page e h =
     let g = rw i at h in
     grind (arith, nat_tests)
 
-free_is : (page : Image) → is_slotted page.kind ≡ true → free_of page ≡ PAGE_BYTES - HEADER_BYTES - used page.items
+free_is : (page : Image) → is_slotted page.kind ≡ true → free_of page ≡ PAGE_BYTES - PAGE_HEADER_BYTES - used page.items
 free_is page e = rw e refl
 
 pub heavy : (item : LeafItem) (page : Image) → IsTreePage page → IsLeaf item → lacks_room item page ≡ true → IsHeavy page.items

@@ -1,11 +1,11 @@
 -- Items that join a page one by one.
 use Rattle.std.proofs.Common.{◌≡◌, ◌≤◌, ◌+◌, ◌-◌, ℕ, true, List, [], ◌∷◌, ◌++◌, length, take, drop, refl, sym, ap, subst, ◌∙◌, arith}
+use Rattle.rm_base.specs.declared.limits.TheConstants.{PAGE_BYTES, PAGE_HEADER_BYTES}
 use Rattle.std.specs.Prelude.{insert}
 use Rattle.std.specs.List.{AllByRecursion}
 use Rattle.std.proofs.lemmas.List.{append_assoc, append-nil, length-append}
 use Rattle.std.proofs.lemmas.List.Edits.{insert_end}
 use Rattle.std.proofs.lemmas.List.Sums.{sum_by-append, sum_by-cons, sum_by-take-drop}
-use Rattle.page_image.specs.declared.TheConstants.{PAGE_BYTES, HEADER_BYTES}
 use Rattle.page_image.specs.Image.{Image, used, free_of, is_slotted, inserted}
 use Rattle.redo_record.specs.declared.redo.Record.TheVariants.{InsertSlot}
 use Rattle.redo_record.specs.Effect.{page_of, after_records, RecordsApply}
@@ -43,7 +43,7 @@ filled page n lsn (x ∷ xs) im p e =
     } in
     subst (λ (i : Image). Filled im (x ∷ xs) i) (sym (own_after lsn (InsertSlot page n x) (inserts page (n + 1) xs) im (sym p))) all
 
-pub free_is : (im : Image) → is_slotted im.kind ≡ true → free_of im ≡ PAGE_BYTES - HEADER_BYTES - used im.items
+pub free_is : (im : Image) → is_slotted im.kind ≡ true → free_of im ≡ PAGE_BYTES - PAGE_HEADER_BYTES - used im.items
 free_is im e = rw e refl
 
 pub used-append : (xs ys : List (List ℕ)) → used (xs ++ ys) ≡ used xs + used ys
@@ -56,7 +56,7 @@ pub used_halves : (n : ℕ) (xs : List (List ℕ)) → used (take n xs) + used (
 used_halves n xs = sum_by-take-drop (λ (x : List ℕ). length x + 2) xs n
 
 pub inserts_apply : (page n lsn : ℕ) (xs : List (List ℕ)) (im : Image) → im.page ≡ page → length im.items ≡ n → is_slotted im.kind ≡ true
-    → AllByRecursion (λ x. 1 ≤ length x) xs → used im.items + used xs ≤ PAGE_BYTES - HEADER_BYTES → RecordsApply lsn (inserts page n xs) im
+    → AllByRecursion (λ x. 1 ≤ length x) xs → used im.items + used xs ≤ PAGE_BYTES - PAGE_HEADER_BYTES → RecordsApply lsn (inserts page n xs) im
 inserts_apply page n lsn [] im p e s some fits = tt
 inserts_apply page n lsn (x ∷ xs) im p e s some fits =
     let one : Image = inserted im n x lsn in

@@ -1,5 +1,6 @@
 -- An inner page with an entry for the new half of a child.
 use Rattle.std.proofs.Common.{◌≡◌, ◌≤◌, ◌+◌, ℕ, suc, List, [], ◌∷◌, ◌++◌, length, map, drop, slice_get, Option, Some, refl, sym, ap, subst, ◌∙◌, arith}
+use Rattle.rm_base.specs.declared.limits.TheConstants.{MAX_KEY_BYTES}
 use Rattle.std.specs.Prelude.{insert}
 use Rattle.std.specs.List.{AllByRecursion}
 use Rattle.std.proofs.lemmas.List.{take_at, drop_at, append_assoc, map-append, length-map, length-append}
@@ -7,7 +8,6 @@ use Rattle.std.proofs.lemmas.Option.{same_Some}
 use Rattle.std.specs.declared.cmp.Ordering.TheVariants.{Less}
 use Rattle.page_image.specs.declared.kind.Kind.TheVariants.{Inner}
 use Rattle.page_image.specs.Image.{Image}
-use Rattle.page_view.specs.declared.leaf.TheConstants.{LONGEST_KEY}
 use Rattle.page_view.specs.Inner.{InnerItem, inner_bytes, IsInner}
 use Rattle.page_view.specs.Keys.{key_in, keys_of, key_cmp}
 use Rattle.bplus_tree.specs.Tree.{Beyond, Below, IsInnerPage, Parts, Stands}
@@ -123,7 +123,7 @@ parent_stands pages others l parent page new low high xs entry ys items below se
         height = lv;
         has = has;
         each = all_again IsInner xs entry e ys (record { short_key = (let s = h.short in omega (arith, s)); child = bound }) ip.each;
-        short = all_again (λ x. length x.key ≤ LONGEST_KEY) xs entry e ys h.short ip.short;
+        short = all_again (λ x. length x.key ≤ MAX_KEY_BYTES) xs entry e ys h.short ip.short;
         least = least_again xs entry e ys (pages parent) (others parent) ip.has has ip.least;
         ascend = ascend_at (others parent) (map inner_bytes (xs ++ (entry ∷ (e ∷ ys)))) has (sorted_again xs entry e ys sorted0 less more);
       },

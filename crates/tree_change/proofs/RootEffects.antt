@@ -1,5 +1,6 @@
 -- What the records of a root split do to each page.
 use Rattle.std.proofs.Common.{◌≡◌, ◌≢◌, ◌<◌, ◌≤◌, ◌+◌, ◌-◌, ℕ, Bool, true, false, cond, List, [], ◌∷◌, ◌++◌, length, take, refl, sym, ap, subst, ◌∙◌, arith, inl, inr}
+use Rattle.rm_base.specs.declared.limits.TheConstants.{PAGE_BYTES, PAGE_HEADER_BYTES}
 use Rattle.std.specs.Prelude.{◌⊎◌}
 use Rattle.std.specs.List.{AllByRecursion}
 use Rattle.std.proofs.lemmas.List.{length-append}
@@ -7,7 +8,6 @@ use Rattle.rm_base.specs.Fields.{field}
 use Rattle.rm_base.proofs.FieldLaws.{length-field}
 use Rattle.page_image.specs.declared.kind.Kind.{Kind}
 use Rattle.page_image.specs.declared.kind.Kind.TheVariants.{Unmade, Meta, Leaf, Inner}
-use Rattle.page_image.specs.declared.TheConstants.{PAGE_BYTES, HEADER_BYTES}
 use Rattle.page_image.specs.Image.{Image, unmade, used, is_slotted, is_inner, LevelFits, made, inserted, cut_from, patched}
 use Rattle.redo_record.specs.declared.redo.Record.{Record}
 use Rattle.redo_record.specs.declared.redo.Record.TheVariants.{Make, InsertSlot, Cut, Link}
@@ -188,7 +188,7 @@ linked_left_apply root left right lsn om s b = by_test (is_inner root.kind)
 
 pub apply_left : (root meta : Image) (at lsn : ℕ) → Apart root.page (count_of meta) (count_of meta + 1) meta.page
     → root.kind ≢ Unmade → LevelFits root.kind root.level → is_slotted root.kind ≡ true
-    → AllByRecursion (λ x. 1 ≤ length x) (take at root.items) → used (take at root.items) ≤ PAGE_BYTES - HEADER_BYTES → count_of meta + 1 ≤ 32767
+    → AllByRecursion (λ x. 1 ≤ length x) (take at root.items) → used (take at root.items) ≤ PAGE_BYTES - PAGE_HEADER_BYTES → count_of meta + 1 ≤ 32767
     → RecordsApply lsn (root_split_records root at meta) (unmade (count_of meta))
 apply_left root meta at lsn d some fits slotted each room bound =
     let left : ℕ = count_of meta in
@@ -213,7 +213,7 @@ apply_left root meta at lsn d some fits slotted each room bound =
 
 pub apply_right : (root meta : Image) (at lsn : ℕ) → Apart root.page (count_of meta) (count_of meta + 1) meta.page
     → root.kind ≢ Unmade → LevelFits root.kind root.level → is_slotted root.kind ≡ true
-    → AllByRecursion (λ x. 1 ≤ length x) (right_half root at) → used (right_half root at) ≤ PAGE_BYTES - HEADER_BYTES
+    → AllByRecursion (λ x. 1 ≤ length x) (right_half root at) → used (right_half root at) ≤ PAGE_BYTES - PAGE_HEADER_BYTES
     → RecordsApply lsn (root_split_records root at meta) (unmade (count_of meta + 1))
 apply_right root meta at lsn d some fits slotted each room =
     let left : ℕ = count_of meta in

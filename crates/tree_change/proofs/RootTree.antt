@@ -1,12 +1,12 @@
 -- A root split leaves a tree that stands for the same items.
 use Rattle.std.proofs.Common.{◌≡◌, ◌≢◌, ◌<◌, ◌≤◌, ◌+◌, ◌-◌, ℕ, zero, suc, Bool, true, false, cond, eqb, List, [], ◌∷◌, ◌++◌, length, map, take, slice_get, Option, Some, None, refl, sym, ap, subst, ◌∙◌, arith, inl, inr}
+use Rattle.rm_base.specs.declared.limits.TheConstants.{PAGE_BYTES, PAGE_HEADER_BYTES}
 use Rattle.std.specs.Prelude.{◌⊎◌, ◌↔◌, nat_eq, Contains}
 use Rattle.std.specs.List.{AllByRecursion, IsDistinct}
 use Rattle.std.proofs.lemmas.List.Elements.{recursion_from_All, All-take}
 use Rattle.std.proofs.lemmas.Bool.{eq-eqb, ne_eqb}
 use Rattle.std.proofs.lemmas.Bool.Decides.{eqb_tells}
 use Rattle.page_image.specs.declared.kind.Kind.TheVariants.{Unmade, Meta, Leaf, Inner}
-use Rattle.page_image.specs.declared.TheConstants.{PAGE_BYTES, HEADER_BYTES}
 use Rattle.rm_base.specs.Fields.{field}
 use Rattle.tree_change.specs.declared.counting.TheConstants.{COUNT_AT}
 use Rattle.page_image.specs.Image.{Image, unmade, used, is_inner, has_body, LevelFits, patched}
@@ -345,7 +345,7 @@ root_applies key path w meta place lsn s page number =
     let fits = right_fits im place s.image in
     let each : AllByRecursion (λ x. 1 ≤ length x) (take place im.items) =
     recursion_from_All (λ x. 1 ≤ length x) (take place im.items) (All-take (λ x. 1 ≤ length x) place im.items s.image.some_bytes) in
-    let room : used (take place im.items) ≤ PAGE_BYTES - HEADER_BYTES = (let u = used_halves place im.items in let r = s.image.room in omega (arith, u, r)) in
+    let room : used (take place im.items) ≤ PAGE_BYTES - PAGE_HEADER_BYTES = (let u = used_halves place im.items in let r = s.image.room in omega (arith, u, r)) in
     let h = root_halves key path w meta place lsn s b in
     let short = h.short in
     elim (eqb_tells page w.root) [
@@ -409,7 +409,7 @@ root_keeps key path place meta is_place page_is image low is_meta meta_image bou
     group =
         let front : AllByRecursion (λ x. 1 ≤ length x) (take place root.items) =
         recursion_from_All (λ x. 1 ≤ length x) (take place root.items) (All-take (λ x. 1 ≤ length x) place root.items image.some_bytes) in
-        let room : used (take place root.items) ≤ PAGE_BYTES - HEADER_BYTES = (let u = used_halves place root.items in let r = image.room in omega (arith, u, r)) in
+        let room : used (take place root.items) ≤ PAGE_BYTES - PAGE_HEADER_BYTES = (let u = used_halves place root.items in let r = image.room in omega (arith, u, r)) in
         let back = right_fits root place image in
         root_group root meta place page_is is_place.within image.level_fits low front room back.0 back.1 bound
 

@@ -1,12 +1,12 @@
 -- What the records of a split do to each page.
 use Rattle.std.proofs.Common.{◌≡◌, ◌≢◌, ◌≤◌, ◌+◌, ◌-◌, ℕ, Bool, true, false, cond, eqb, List, [], ◌∷◌, ◌++◌, length, refl, sym, ap, subst, ◌∙◌, arith, inl}
+use Rattle.rm_base.specs.declared.limits.TheConstants.{PAGE_BYTES, PAGE_HEADER_BYTES}
 use Rattle.std.specs.List.{AllByRecursion}
 use Rattle.std.proofs.lemmas.Bool.{eqb-true}
 use Rattle.rm_base.specs.Fields.{field}
 use Rattle.rm_base.proofs.FieldLaws.{length-field}
 use Rattle.page_image.specs.declared.kind.Kind.{Kind}
 use Rattle.page_image.specs.declared.kind.Kind.TheVariants.{Unmade, Meta}
-use Rattle.page_image.specs.declared.TheConstants.{PAGE_BYTES, HEADER_BYTES}
 use Rattle.page_image.specs.Image.{Image, unmade, used, is_slotted, is_inner, has_body, LevelFits, made, CanInsert, inserted, cut_from, linked, CanPatch, patched}
 use Rattle.redo_record.specs.declared.redo.Record.{Record}
 use Rattle.redo_record.specs.declared.redo.Record.TheVariants.{Make, InsertSlot, Cut, Link}
@@ -81,7 +81,7 @@ apply_linked_on lsn page next om s b = by_test (eqb next 0)
     by_test false = ((λ _. record { slotted = s; bound = b }), tt)
 
 pub apply_made : (kind : Kind) (page level next lsn : ℕ) (xs : List (List ℕ)) → kind ≢ Unmade → LevelFits kind level → is_slotted kind ≡ true
-    → AllByRecursion (λ x. 1 ≤ length x) xs → used xs ≤ PAGE_BYTES - HEADER_BYTES → next ≤ 32767
+    → AllByRecursion (λ x. 1 ≤ length x) xs → used xs ≤ PAGE_BYTES - PAGE_HEADER_BYTES → next ≤ 32767
     → RecordsApply lsn (Make page kind level ∷ (inserts page 0 xs ++ linked_on page next)) (unmade page)
 apply_made kind page level next lsn xs some fits slotted each room bound =
     let one : Image = made (unmade page) kind level lsn in
@@ -127,7 +127,7 @@ on_new key parent page meta at lsn d =
 
 pub apply_new : (key : List ℕ) (parent page meta : Image) (at lsn : ℕ) → Apart parent.page page.page (count_of meta) meta.page
     → page.kind ≢ Unmade → LevelFits page.kind page.level → is_slotted page.kind ≡ true
-    → AllByRecursion (λ x. 1 ≤ length x) (right_half page at) → used (right_half page at) ≤ PAGE_BYTES - HEADER_BYTES → page.next ≤ 32767
+    → AllByRecursion (λ x. 1 ≤ length x) (right_half page at) → used (right_half page at) ≤ PAGE_BYTES - PAGE_HEADER_BYTES → page.next ≤ 32767
     → RecordsApply lsn (split_records key parent page at meta) (unmade (count_of meta))
 apply_new key parent page meta at lsn d some fits slotted each room bound =
     let new : ℕ = count_of meta in

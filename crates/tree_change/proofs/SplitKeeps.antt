@@ -1,5 +1,6 @@
 -- The records of a split apply to each page.
 use Rattle.std.proofs.Common.{◌≡◌, ◌≢◌, ◌<◌, ◌≤◌, ◌+◌, ◌-◌, ℕ, suc, Bool, true, false, cond, List, [], ◌∷◌, ◌++◌, length, drop, get_or, refl, sym, ap, subst, ◌∙◌, arith, inl, inr}
+use Rattle.rm_base.specs.declared.limits.TheConstants.{PAGE_BYTES, PAGE_HEADER_BYTES}
 use Rattle.std.specs.Prelude.{◌⊎◌, Contains}
 use Rattle.std.specs.List.{AllByRecursion}
 use Rattle.std.proofs.lemmas.List.{length-map, length-append, length-drop}
@@ -8,7 +9,6 @@ use Rattle.std.proofs.lemmas.Bool.Decides.{eqb_tells}
 use Rattle.rm_base.specs.Fields.{field}
 use Rattle.rm_base.proofs.FieldLaws.{length-field}
 use Rattle.page_image.specs.declared.kind.Kind.TheVariants.{Unmade, Leaf, Inner}
-use Rattle.page_image.specs.declared.TheConstants.{PAGE_BYTES, HEADER_BYTES}
 use Rattle.page_image.specs.Image.{Image, unmade, used, free_of, is_slotted, is_inner, has_body, CanInsert, patched}
 use Rattle.page_image.specs.Rules.{IsImage}
 use Rattle.page_view.specs.Inner.{inner_bytes}
@@ -45,17 +45,17 @@ used_first (x ∷ xs) h =
     let one = h.0 in
     omega (arith, a, b, d, one)
 
-pub right_fits : (im : Image) (at : ℕ) → IsImage im → AllByRecursion (λ x. 1 ≤ length x) (right_half im at) × (used (right_half im at) ≤ PAGE_BYTES - HEADER_BYTES)
+pub right_fits : (im : Image) (at : ℕ) → IsImage im → AllByRecursion (λ x. 1 ≤ length x) (right_half im at) × (used (right_half im at) ≤ PAGE_BYTES - PAGE_HEADER_BYTES)
 right_fits im at h = by_test (is_inner im.kind)
   where
     back : AllByRecursion (λ x. 1 ≤ length x) (drop at im.items)
     back = recursion_from_All (λ x. 1 ≤ length x) (drop at im.items) (All-drop (λ x. 1 ≤ length x) at im.items h.some_bytes)
 
-    fits : used (drop at im.items) ≤ PAGE_BYTES - HEADER_BYTES
+    fits : used (drop at im.items) ≤ PAGE_BYTES - PAGE_HEADER_BYTES
     fits = let e = used_halves at im.items in let r = h.room in omega (arith, e, r)
 
     by_test : (b : Bool) → AllByRecursion (λ x. 1 ≤ length x) (cond b (first_without_key (drop at im.items)) (drop at im.items))
-        × (used (cond b (first_without_key (drop at im.items)) (drop at im.items)) ≤ PAGE_BYTES - HEADER_BYTES)
+        × (used (cond b (first_without_key (drop at im.items)) (drop at im.items)) ≤ PAGE_BYTES - PAGE_HEADER_BYTES)
     by_test true = (some_first (drop at im.items) back, (let u = used_first (drop at im.items) back in let f = fits in omega (arith, u, f)))
     by_test false = (back, fits)
 

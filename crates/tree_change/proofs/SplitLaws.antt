@@ -1,5 +1,6 @@
 -- The two halves of a page of a tree.
 use Rattle.std.proofs.Common.{◌≡◌, ◌≢◌, ◌≤◌, ℕ, zero, suc, List, [], ◌∷◌, ◌++◌, length, map, drop, get_or, slice_get, Option, Some, None, refl, sym, ap, subst, ◌∙◌, arith}
+use Rattle.rm_base.specs.declared.limits.TheConstants.{MAX_KEY_BYTES}
 use Rattle.std.specs.List.{AllByRecursion}
 use Rattle.std.proofs.lemmas.List as lists
 use Rattle.std.proofs.lemmas.List.{take-append-drop, drop_more, take_at, drop_at, drop-drop, length-take-le, append_assoc, append-nil, map-append, length-map, length-append}
@@ -8,7 +9,6 @@ use Rattle.std.specs.declared.cmp.Ordering.TheVariants.{Less, Equal, Greater}
 use Rattle.rm_base.specs.Fields.{field}
 use Rattle.page_image.specs.declared.kind.Kind.TheVariants.{Leaf, Inner}
 use Rattle.page_image.specs.Image.{Image}
-use Rattle.page_view.specs.declared.leaf.TheConstants.{LONGEST_KEY}
 use Rattle.page_view.specs.Leaf.{HoldsLeaf}
 use Rattle.page_view.specs.Inner.{InnerItem, inner_bytes, IsInner}
 use Rattle.page_view.specs.Keys.{key_in, keys_of, key_cmp, Ascend}
@@ -39,7 +39,7 @@ pub record Halves (others : ℕ → Image) (level page new : ℕ) (lo hi : Optio
   pub beyond : Beyond lo sep
   pub below : Below hi sep
   pub above : key_cmp [] sep ≡ Less
-  pub short : length sep ≤ LONGEST_KEY
+  pub short : length sep ≤ MAX_KEY_BYTES
   pub old_left : List ℕ
   pub old_right : List ℕ
   pub nodes_were : nodes ≡ page ∷ (old_left ++ old_right)
@@ -51,7 +51,7 @@ beyond_from : (lo : Option (List ℕ)) (a b : List ℕ) → NotBelow lo a → ke
 beyond_from None a b h e = tt
 beyond_from (Some lo) a b h e = then_less lo a b h e
 
-short_key : (item : List ℕ) → HoldsLeaf item → length (key_in item) ≤ LONGEST_KEY
+short_key : (item : List ℕ) → HoldsLeaf item → length (key_in item) ≤ MAX_KEY_BYTES
 short_key item h =
     let long = lists.length-take (get_or item 0 0) (drop 1 item) in
     let short = h.short_key in
@@ -182,7 +182,7 @@ inner_parts pages others m page new lo hi x us y vs items below im h parts same 
           height = ll;
           has = li;
           each = all_front IsInner (x ∷ us) (y ∷ vs) h.each;
-          short = all_front (λ entry. length entry.key ≤ LONGEST_KEY) (x ∷ us) (y ∷ vs) h.short;
+          short = all_front (λ entry. length entry.key ≤ MAX_KEY_BYTES) (x ∷ us) (y ∷ vs) h.short;
           least = subst (λ (l : List (List ℕ)). slice_get (keys_of l) 0 ≡ Some []) (sym li) (ap Some first);
           ascend = ascend_at (others page) (map inner_bytes (x ∷ us)) li (sorted_front (map inner_bytes (x ∷ us)) (inner_bytes y ∷ map inner_bytes vs) s);
         },
@@ -198,7 +198,7 @@ inner_parts pages others m page new lo hi x us y vs items below im h parts same 
           height = rl;
           has = ri;
           each = (record { short_key = omega arith; child = all_right.0.child }, all_right.1);
-          short = (omega arith, (all_back (λ entry. length entry.key ≤ LONGEST_KEY) (x ∷ us) (y ∷ vs) h.short).1);
+          short = (omega arith, (all_back (λ entry. length entry.key ≤ MAX_KEY_BYTES) (x ∷ us) (y ∷ vs) h.short).1);
           least = subst (λ (l : List (List ℕ)). slice_get (keys_of l) 0 ≡ Some []) (sym ri) (ap Some (key_of_entry z));
           ascend = ascend_at (others new) (entry_of [] y.child ∷ map inner_bytes vs) ri (right_sorted y vs back);
         },
@@ -208,7 +208,7 @@ inner_parts pages others m page new lo hi x us y vs items below im h parts same 
       beyond = f.front.1;
       below = f.front.2;
       above = above_empty (key_in (inner_bytes x)) y.key (subst (λ (k : List ℕ). key_cmp (key_in (inner_bytes x)) k ≡ Less) (key_of_entry y) less);
-      short = (all_back (λ entry. length entry.key ≤ LONGEST_KEY) (x ∷ us) (y ∷ vs) h.short).0;
+      short = (all_back (λ entry. length entry.key ≤ MAX_KEY_BYTES) (x ∷ us) (y ∷ vs) h.short).0;
       old_left = f.left;
       old_right = f.own ++ f.right;
       nodes_were = ap (λ (l : List ℕ). page ∷ l) f.nodes_are;

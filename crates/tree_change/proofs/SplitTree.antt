@@ -1,5 +1,6 @@
 -- A split below the root leaves a tree that stands for the same items.
 use Rattle.std.proofs.Common.{◌≡◌, ◌≢◌, ◌<◌, ◌≤◌, ◌+◌, ℕ, zero, suc, Bool, true, false, cond, List, [], ◌∷◌, ◌++◌, length, map, take, drop, get_or, Option, None, refl, sym, ap, subst, ◌∙◌, arith, inl, inr}
+use Rattle.rm_base.specs.declared.limits.TheConstants.{MAX_KEY_BYTES}
 use Rattle.std.specs.Prelude.{◌⊎◌, ◌↔◌, nat_eq, Contains}
 use Rattle.std.specs.List.{AllByRecursion, IsDistinct}
 use Rattle.std.proofs.lemmas.List.{take-append-drop, drop_more, append_assoc, map-append, length-map, take_at, drop_at, get_or_at}
@@ -7,7 +8,6 @@ use Rattle.std.proofs.lemmas.List.Elements.{filter-append}
 use Rattle.std.proofs.lemmas.Bool.Decides.{eqb_tells}
 use Rattle.page_image.specs.declared.kind.Kind.TheVariants.{Unmade, Meta, Leaf, Inner}
 use Rattle.page_image.specs.Image.{Image, unmade, is_inner, inserted, cut_from, linked}
-use Rattle.page_view.specs.declared.leaf.TheConstants.{LONGEST_KEY}
 use Rattle.page_view.specs.Inner.{InnerItem, inner_bytes}
 use Rattle.page_view.specs.Keys.{key_in}
 use Rattle.redo_record.specs.declared.redo.Record.{Record}
@@ -360,7 +360,7 @@ pub record Grown (key : List ℕ) (path : List Image) (w : IsWayTo key path) (i 
   pub old_left : List ℕ
   pub old_right : List ℕ
   pub deep_is : s.around.deep ≡ old_left ++ old_right
-  pub short : length (separator (w.pages s.site.page) at) ≤ LONGEST_KEY
+  pub short : length (separator (w.pages s.site.page) at) ≤ MAX_KEY_BYTES
   pub stands : Stands (pages_after lsn (rs_of key path w i l meta at s) w.pages) w.tree.level w.root None None w.items
       ((s.site.spot.left ++ (s.site.parent ∷ (s.site.parts.left ++ (s.site.page ∷ old_left)))) ++ (count_of meta ∷ (old_right ++ (s.site.parts.right ++ s.site.spot.right))))
 

@@ -1,12 +1,12 @@
 -- What is known of the pages on the way to a key.
 use Rattle.std.proofs.Common.{◌≡◌, ◌<◌, ◌≤◌, ◌+◌, ◌-◌, ℕ, zero, suc, List, [], ◌∷◌, length, map, get_or, slice_get, Option, Some, None, refl, sym, ap, subst, ◌∙◌, arith, inl, inr}
+use Rattle.rm_base.specs.declared.limits.TheConstants.{MAX_KEY_BYTES}
 use Rattle.std.specs.List.{AllByRecursion}
 use Rattle.std.proofs.lemmas.List as lists
 use Rattle.std.proofs.lemmas.List.{length-map, length-append}
 use Rattle.rm_base.specs.Fields.{field}
 use Rattle.rm_base.proofs.FieldLaws.{length-field}
 use Rattle.page_image.specs.Image.{Image, unmade}
-use Rattle.page_view.specs.declared.leaf.TheConstants.{LONGEST_KEY}
 use Rattle.page_view.specs.Inner.{InnerItem, inner_bytes, IsInner}
 use Rattle.page_view.specs.Leaf.{HoldsLeaf}
 use Rattle.page_view.specs.Keys.{keys_of, Ascend, IsChildFor}
@@ -98,13 +98,13 @@ rows_of im page low high items h = record {
   ascend = subst (λ (l : List (List ℕ)). Ascend (keys_of l)) (sym h.has) h.ascend;
 }
 
-holds_child : (e : InnerItem) → IsInner e → length e.key ≤ LONGEST_KEY → HoldsChild (inner_bytes e)
+holds_child : (e : InnerItem) → IsInner e → length e.key ≤ MAX_KEY_BYTES → HoldsChild (inner_bytes e)
 holds_child e is short = record {
   inner = inner_holds e is;
   short = (let l = length-append e.key (field 4 e.child) in let f = length-field 4 e.child in omega (arith, l, f, short));
 }
 
-hold_children : (es : List InnerItem) → AllByRecursion IsInner es → AllByRecursion (λ entry. length entry.key ≤ LONGEST_KEY) es → AllByRecursion HoldsChild (map inner_bytes es)
+hold_children : (es : List InnerItem) → AllByRecursion IsInner es → AllByRecursion (λ entry. length entry.key ≤ MAX_KEY_BYTES) es → AllByRecursion HoldsChild (map inner_bytes es)
 hold_children [] is short = tt
 hold_children (e ∷ es) is short = (holds_child e is.0 short.0, hold_children es is.1 short.1)
 

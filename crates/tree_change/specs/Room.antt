@@ -1,14 +1,14 @@
 -- Which pages have room for a change.
 use Rattle.std.specs.Prelude.{ℕ, ◌+◌, Bool, List, length, nat_lt, if◌then◌else◌}
+use Rattle.rm_base.specs.declared.limits.TheConstants.{RECORD_OVERHEAD_BYTES}
 use Rattle.page_image.specs.Image.{Image, is_inner, used, free_of}
 use Rattle.page_view.specs.declared.leaf.LeafItem.{LeafItem}
-use Rattle.page_view.specs.declared.leaf.TheConstants.{LEAF_OVERHEAD}
 use Rattle.tree_change.specs.declared.room.TheConstants.{INNER_ROOM}
 use Rattle.tree_change.specs.Places.{with_key}
 
 -- the bytes of a leaf item, and 2 for its slot
 abbrev pub size_of : LeafItem → ℕ
-size_of item = LEAF_OVERHEAD + length item.key + length item.value + 2
+size_of item = RECORD_OVERHEAD_BYTES + length item.key + length item.value + 2
 
 -- the bytes that a leaf has for an item: those that are free, and those of the item that it replaces
 abbrev pub room_for : List ℕ → Image → ℕ

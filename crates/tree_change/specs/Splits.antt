@@ -1,11 +1,11 @@
 -- The plans that split a page.
 use Rattle.std.specs.Prelude.{◌≡◌, ◌≤◌, ◌<◌, ◌+◌, ◌==◌, ℕ, Bool, true, false, List, [], ◌∷◌, ◌++◌, length, take, drop, slice_index, slice_index_or, Option, MatchOption, if◌then◌else◌}
+use Rattle.rm_base.specs.declared.limits.TheConstants.{MAX_RECORD_BYTES}
 use Rattle.std.specs.List.{AllByRecursion}
 use Rattle.rm_base.specs.Fields.{field, number}
 use Rattle.page_image.specs.declared.kind.Kind.TheVariants.{Meta, Inner}
 use Rattle.page_image.specs.Image.{Image, is_inner, used}
 use Rattle.page_view.specs.declared.leaf.LeafItem.{LeafItem}
-use Rattle.page_view.specs.declared.leaf.TheConstants.{LARGEST_LEAF}
 use Rattle.page_view.specs.Inner.{inner_bytes}
 use Rattle.page_view.specs.Keys.{key_in}
 use Rattle.redo_record.specs.declared.redo.Record.{Record}
@@ -48,12 +48,12 @@ pub record IsSplitPlace (items : List (List ℕ)) (at : ℕ) : Type 0 where
 pub record IsSmall (item : List ℕ) : Type 0 where
   pub key : 1 + slice_index item 0 ≤ length item
   pub short_key : slice_index item 0 ≤ 255
-  pub short : length item ≤ LARGEST_LEAF
+  pub short : length item ≤ MAX_RECORD_BYTES
 
 -- small items that take so many bytes that each half has one
 pub record IsHeavy (items : List (List ℕ)) : Type 0 where
   pub small : AllByRecursion IsSmall items
-  pub enough : HALF_BYTES + LARGEST_LEAF + 2 ≤ used items
+  pub enough : HALF_BYTES + MAX_RECORD_BYTES + 2 ≤ used items
 
 -- the meta page is page 0
 pub record IsMeta (meta : Image) : Type 0 where

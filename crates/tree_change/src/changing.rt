@@ -12,7 +12,7 @@ ghost use Rattle.tree_change.specs.Effects.{Carries, with_item, without_item};
 use crate::places::{leaf_of, place_in};
 use crate::room::{items_fit, room_for, size_of};
 use crate::spelling::leaf_item_bytes;
-use page_image::{HEADER_BYTES, PAGE_BYTES, Page};
+use page_image::Page;
 use page_view::LeafItem;
 use redo_record::{Path, Plan, PlanKind, Record, Records, TreeNo};
 use rm_base::{Duplicate, PageId, PageList, WantOfMemory};

@@ -8,8 +8,9 @@ ghost use Rattle.tree_change.specs.Room as spec;
 ghost use Rattle.tree_change.specs.Pages.{HasRows, IsTreePage};
 
 use crate::places::found_in;
-use page_image::{HEADER_BYTES, Kind, PAGE_BYTES, Page};
-use page_view::{LEAF_OVERHEAD, LeafItem};
+use page_image::{Kind, Page};
+use page_view::LeafItem;
+use rm_base::{PAGE_BYTES, PAGE_HEADER_BYTES, RECORD_OVERHEAD_BYTES};
 
 /// The free bytes of an inner page that has room: those of its largest item, and of that item's slot.
 pub const INNER_ROOM: u16 = 71;
@@ -19,7 +20,7 @@ pub(crate) fn size_of(item: &LeafItem) -> usize
     requires { IsLeaf item.now }
     ensures { result ≡ spec.size_of item.now }
 {
-    LEAF_OVERHEAD + item.key.len() + item.value.len() + 2
+    RECORD_OVERHEAD_BYTES + item.key.len() + item.value.len() + 2
 }
 
 /// The bytes of the leaf's item with the key, and of its slot; 0 where it is not there.
@@ -57,7 +58,7 @@ pub(crate) fn lacks_room(page: &Page, item: &LeafItem) -> bool
 
 /// The items of a page fit it. It does nothing when it is run.
 pub(crate) fn items_fit(page: &Page)
-    ensures { used page.now.items ≤ PAGE_BYTES - HEADER_BYTES }
+    ensures { used page.now.items ≤ PAGE_BYTES - PAGE_HEADER_BYTES }
 {
     let _bytes = page.bytes();
 }

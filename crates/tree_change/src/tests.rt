@@ -10,9 +10,12 @@ use crate::root_splitting::split_root;
 use crate::splitting::split_below;
 use bplus_tree::can_be_read;
 use page_image::{Kind, Page};
-use page_view::{InnerView, LARGEST_LEAF, LEAF_OVERHEAD, LONGEST_KEY, LeafItem, LeafView};
+use page_view::{InnerView, LeafItem, LeafView};
 use redo_record::{Path, Plan, Record, TreeNo, apply};
-use rm_base::{Bytes, Duplicate, Items, Lsn, PageId, TrxId, UndoPtr, WantOfMemory};
+use rm_base::{
+    Bytes, Duplicate, Items, Lsn, MAX_KEY_BYTES, MAX_RECORD_BYTES, PageId, RECORD_OVERHEAD_BYTES,
+    TrxId, UndoPtr, WantOfMemory,
+};
 use std::alloc::Global;
 use std::test::Fail;
 
@@ -152,13 +155,13 @@ fn within_limits(item: &LeafItem) -> bool
     }
     let key = item.key.len();
     let value = item.value.len();
-    if key > LONGEST_KEY {
+    if key > MAX_KEY_BYTES {
         return false;
     }
-    if value > LARGEST_LEAF {
+    if value > MAX_RECORD_BYTES {
         return false;
     }
-    if LEAF_OVERHEAD + key + value > LARGEST_LEAF {
+    if RECORD_OVERHEAD_BYTES + key + value > MAX_RECORD_BYTES {
         return false;
     }
     true

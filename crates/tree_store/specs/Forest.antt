@@ -1,14 +1,12 @@
 -- Trees that stand side by side on the pages of one store.
 use Rattle.std.specs.Prelude.{◌≡◌, ◌≤◌, ◌+◌, ◌⊎◌, ℕ, List, map, Contains, nat_eq, if◌then◌else◌}
+use Rattle.rm_base.specs.declared.limits.TheConstants.{FIRST_FREE_PAGE_ID, MAX_PAGES, MAX_TREE_LEVEL}
 use Rattle.page_image.specs.Image.{Image, unmade}
 use Rattle.page_view.specs.declared.leaf.LeafItem.{LeafItem}
-use Rattle.bplus_tree.specs.declared.want.TheConstants.{HIGHEST_LEVEL}
 use Rattle.bplus_tree.specs.Tree.{Tree, Way}
 use Rattle.tree_change.specs.Places.{leaf_on}
 use Rattle.tree_change.specs.Room.{size_of, room_for}
 use Rattle.tree_change.specs.Splits.{IsMeta, count_of}
-use Rattle.page_store.specs.declared.TheConstants.{FIRST_FREE}
-use Rattle.tree_store.specs.declared.TheConstants.{MOST_PAGES}
 
 -- a tree that stands for the items, each page of which belongs to it
 pub record Owns (pages : ℕ → Image) (owner : ℕ → ℕ) (root : ℕ) (items : List (List ℕ)) : Type 0 where
@@ -19,8 +17,8 @@ pub record Owns (pages : ℕ → Image) (owner : ℕ → ℕ) (root : ℕ) (item
 -- belongs to two trees: each has one root that owns it.
 pub record Forest (pages : ℕ → Image) (roots : List ℕ) (items : ℕ → List (List ℕ)) : Type 0 where
   pub meta : IsMeta (pages 0)
-  pub low : FIRST_FREE ≤ count_of (pages 0)
-  pub high : count_of (pages 0) ≤ MOST_PAGES
+  pub low : FIRST_FREE_PAGE_ID ≤ count_of (pages 0)
+  pub high : count_of (pages 0) ≤ MAX_PAGES
   pub free : (page : ℕ) → count_of (pages 0) ≤ page → pages page ≡ unmade page
   pub numbered : (page : ℕ) → (pages page).page ≡ page
   pub owner : ℕ → ℕ
@@ -32,7 +30,7 @@ IsRoot pages root = (roots : List ℕ) × (items : ℕ → List (List ℕ)) × F
 
 -- at most one page is left, or the root is as high as there are levels
 abbrev pub IsFull : (ℕ → Image) → ℕ → Type 0
-IsFull pages root = (MOST_PAGES ≤ count_of (pages 0) + 1) ⊎ (HIGHEST_LEVEL ≤ (pages root).level)
+IsFull pages root = (MAX_PAGES ≤ count_of (pages 0) + 1) ⊎ (MAX_TREE_LEVEL ≤ (pages root).level)
 
 -- the items of the trees, where the one at the root has new ones
 abbrev pub with_tree : (ℕ → List (List ℕ)) → ℕ → List (List ℕ) → ℕ → List (List ℕ)

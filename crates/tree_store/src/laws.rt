@@ -8,12 +8,12 @@ ghost use Rattle.page_store.specs.Opening.{opened};
 ghost use Rattle.tree_change.specs.Splits.{count_of};
 ghost use Rattle.tree_store.specs.Forest.{Forest};
 
-use page_store::ROOT_PAGE;
+use rm_base::CATALOG_ROOT_PAGE_ID;
 
 /// The laws of trees on the pages of a store. It does nothing when it is run.
 pub fn forest_laws()
     // A new store has one tree, which is empty.
-    ensures opened { Forest (pages_of opened) (ROOT_PAGE ∷ []) (λ root. []) }
+    ensures opened { Forest (pages_of opened) (CATALOG_ROOT_PAGE_ID ∷ []) (λ root. []) }
 
     // The items of a tree are leaf items, by ascending keys.
     ensures items { (pages : ℕ → Image) (roots : List ℕ) (items : ℕ → List (List ℕ)) → Forest pages roots items → (root : ℕ) → Contains roots root

@@ -11,6 +11,3 @@ mod tests;
 pub use changing::{make_room, put, put_with_tree, take_out};
 pub use finding::{leaves_in, next_page};
 pub use laws::forest_laws;
-
-/// How many pages there can be.
-pub const MOST_PAGES: u32 = 32768;

@@ -5,9 +5,9 @@ ghost use Rattle.tree_store.specs.Forest.{IsRoot};
 
 use crate::*;
 use page_image::Page;
-use page_store::{PageStore, ROOT_PAGE};
+use page_store::PageStore;
 use page_view::{LeafItem, LeafView};
-use rm_base::{Bytes, Items, KeyRange, PageId, TrxId, UndoPtr, WantOfMemory};
+use rm_base::{Bytes, CATALOG_ROOT_PAGE_ID, Items, KeyRange, PageId, TrxId, UndoPtr, WantOfMemory};
 use std::alloc::Global;
 use std::test::Fail;
 
@@ -21,7 +21,7 @@ const OPENING: usize = 79;
 
 /// A store with its first tree.
 fn start(alloc: Global) -> Result<PageStore, WantOfMemory>
-    ensures { IfOk result (λ store. IsRoot (pages_of store) ROOT_PAGE) }
+    ensures { IfOk result (λ store. IsRoot (pages_of store) CATALOG_ROOT_PAGE_ID) }
 {
     forest_laws();
     PageStore::new(alloc)
@@ -143,7 +143,7 @@ fn keys_in(
 #[test]
 fn items_are_found_by_their_keys(rt: HostRuntime) -> Result<(), Fail> {
     let mut store = start(rt.alloc())?;
-    let root = PageId::new(ROOT_PAGE).unwrap();
+    let root = PageId::new(CATALOG_ROOT_PAGE_ID).unwrap();
     for n in 0..20u8 {
         assert!(rt; put_key(rt.alloc(), &mut store, root, n)?);
         assert!(rt; put_key(rt.alloc(), &mut store, root, 39 - n)?);
@@ -164,7 +164,7 @@ fn items_are_found_by_their_keys(rt: HostRuntime) -> Result<(), Fail> {
 #[test]
 fn a_tree_begins_in_one_group_with_its_item(rt: HostRuntime) -> Result<(), Fail> {
     let mut store = start(rt.alloc())?;
-    let root = PageId::new(ROOT_PAGE).unwrap();
+    let root = PageId::new(CATALOG_ROOT_PAGE_ID).unwrap();
     let new = begin(rt.alloc(), &mut store, root, b's')?.ok_or("no space")?;
     assert_eq!(rt; new.number(), 1028);
     assert!(rt; keys_in(rt.alloc(), &store, new, None, None)?.is_empty());

@@ -1,22 +1,22 @@
 -- Stated: the undo item that stands at a place of a page.
 use Rattle.std.specs.Prelude.{◌+◌, ℕ, Bool, true, false, List, length, drop, nat_eq, nat_lt, nat_le, slice_index, slice_get, if◌then◌else◌, ◌&&◌, Option, Some, None, option_and_then}
+use Rattle.rm_base.specs.declared.limits.TheConstants.{MAX_KEY_BYTES, MAX_RECORD_BYTES, RECORD_OVERHEAD_BYTES}
 use Rattle.rm_base.specs.Fields.{number}
 use Rattle.rm_base.specs.declared.places.UndoPtr.{UndoPtr}
 use Rattle.page_image.specs.declared.kind.Kind.{Kind}
 use Rattle.page_image.specs.declared.kind.Kind.TheVariants.{Unmade, Meta, Slots, Stamps, Leaf, Inner, Undo}
 use Rattle.page_image.specs.Image.{Image}
-use Rattle.page_view.specs.declared.leaf.TheConstants.{LONGEST_KEY, LARGEST_LEAF, LEAF_OVERHEAD}
 use Rattle.page_view.specs.Undo.{Undone, undo_of}
 use Rattle.undo_versions.specs.declared.items.UndoItem.{UndoItem}
 
 -- the test whether bytes spell a leaf item, a key behind its length, what was there, and an undo item
 abbrev pub holds_leaf : List ℕ → Bool
 holds_leaf item =
-    nat_le (slice_index item 0) LONGEST_KEY && nat_le (LEAF_OVERHEAD + slice_index item 0) (length item)
-    && nat_le (length item) LARGEST_LEAF && nat_le (slice_index item (1 + slice_index item 0)) 1
+    nat_le (slice_index item 0) MAX_KEY_BYTES && nat_le (RECORD_OVERHEAD_BYTES + slice_index item 0) (length item)
+    && nat_le (length item) MAX_RECORD_BYTES && nat_le (slice_index item (1 + slice_index item 0)) 1
 
 abbrev pub holds_key : List ℕ → Bool
-holds_key old = nat_eq (length old) (1 + slice_index old 0) && nat_le (slice_index old 0) LONGEST_KEY
+holds_key old = nat_eq (length old) (1 + slice_index old 0) && nat_le (slice_index old 0) MAX_KEY_BYTES
 
 abbrev pub holds_old : ℕ → List ℕ → Bool
 holds_old mark old = if nat_eq mark 0 then holds_key old else (nat_eq mark 1 && holds_leaf old)

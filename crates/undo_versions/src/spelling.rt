@@ -5,8 +5,8 @@ ghost use Rattle.page_view.specs.Undo.{undo_bytes, old_bytes, IsUndo, IsOld};
 ghost use Rattle.undo_versions.specs.Reading.{undone_of};
 
 use crate::items::UndoItem;
-use page_view::{LONGEST_KEY, LeafItem};
-use rm_base::{Bytes, WantOfMemory, push_u16, push_u32, push_u64};
+use page_view::LeafItem;
+use rm_base::{Bytes, MAX_KEY_BYTES, WantOfMemory, push_u16, push_u32, push_u64};
 use std::alloc::Global;
 
 /// Adds the bytes of a leaf item.
@@ -25,7 +25,7 @@ fn push_leaf(out: &mut Bytes, item: &LeafItem) -> Result<(), WantOfMemory>
 
 /// Adds the bytes of what was there.
 fn push_old(out: &mut Bytes, key: &Bytes, old: &Option<LeafItem>) -> Result<(), WantOfMemory>
-    requires key { length key.now ≤ LONGEST_KEY }
+    requires key { length key.now ≤ MAX_KEY_BYTES }
     requires old { IsOld key.now old.now }
     ensures { OnOk result (out.new ≡ out.old ++ old_bytes key.now old.now) }
 {

@@ -6,9 +6,12 @@ ghost use Rattle.undo_versions.specs.Reading.{undone_of};
 
 use crate::UndoItem;
 use page_image::{Kind, Page};
-use page_view::{LARGEST_LEAF, LEAF_OVERHEAD, LONGEST_KEY, LeafItem};
+use page_view::LeafItem;
 use redo_record::{Record, Records, apply};
-use rm_base::{Bytes, Items, Lsn, PageId, TrxId, UndoPtr, WantOfMemory};
+use rm_base::{
+    Bytes, Items, Lsn, MAX_KEY_BYTES, MAX_RECORD_BYTES, PageId, RECORD_OVERHEAD_BYTES, TrxId,
+    UndoPtr, WantOfMemory,
+};
 use std::alloc::Global;
 
 /// The page before it is made, and nothing where there is no such page.
@@ -106,13 +109,13 @@ fn is_leaf(item: &LeafItem) -> bool
     let _slot = item.older.slot;
     let key = item.key.len();
     let value = item.value.len();
-    if key > LONGEST_KEY {
+    if key > MAX_KEY_BYTES {
         return false;
     }
-    if value > LARGEST_LEAF {
+    if value > MAX_RECORD_BYTES {
         return false;
     }
-    LEAF_OVERHEAD + key + value <= LARGEST_LEAF
+    RECORD_OVERHEAD_BYTES + key + value <= MAX_RECORD_BYTES
 }
 
 /// Whether what was there is a version of the key, if anything was there.
@@ -133,5 +136,5 @@ pub fn is_undo(item: &UndoItem) -> bool
     let _root = item.root.number();
     let _page = item.before.page;
     let _slot = item.before.slot;
-    item.key.len() <= LONGEST_KEY && is_old(&item.key, &item.old)
+    item.key.len() <= MAX_KEY_BYTES && is_old(&item.key, &item.old)
 }

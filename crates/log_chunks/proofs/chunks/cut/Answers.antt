@@ -1,8 +1,8 @@
 use Rattle.std.proofs.Common.{◌≡◌, ◌++◌, ◌∷◌, [], List, ℕ, length, take, sym, ap, subst, ◌∙◌}
+use Rattle.rm_base.specs.declared.limits.TheConstants.{LOG_CHUNK_BYTES}
 use Rattle.std.specs.List.{concat}
 use Rattle.std.proofs.lemmas.List.{take-append-drop}
 use Rattle.log_chunks.specs.Chunked.{AreFull}
-use Rattle.log_chunks.specs.declared.TheConstants.{CHUNK_BYTES}
 use Rattle.log_chunks.proofs.ChunkLaws.{concat-push, AreFull-append}
 use Rattle.log_chunks.proofs.chunks.cut.Goals as goal
 
@@ -16,7 +16,7 @@ loop-rest-preserved c =
     let front : chunk ≡ c.split_at.result.0.now = c.in_ok-copied.ensures in
     let joined : chunk ++ back ≡ rest =
     ap (λ (q : List ℕ). q ++ back) (front ∙ c.split_at.ensures.front)
-    ∙ ap (λ (q : List ℕ). take CHUNK_BYTES rest ++ q) c.split_at.ensures.back ∙ take-append-drop CHUNK_BYTES rest in
+    ∙ ap (λ (q : List ℕ). take LOG_CHUNK_BYTES rest ++ q) c.split_at.ensures.back ∙ take-append-drop LOG_CHUNK_BYTES rest in
     record {
       same =
           ap (λ (q : List (List ℕ)). concat q ++ back) pushed ∙ concat-push full chunk back

@@ -1,6 +1,6 @@
 use Rattle.std.proofs.Common.{◌≤◌, ◌-◌, sym, subst}
+use Rattle.rm_base.specs.declared.limits.TheConstants.{PAGE_BYTES, PAGE_HEADER_BYTES}
 use Rattle.page_image.specs.Image.{Image, used}
-use Rattle.page_image.specs.declared.TheConstants.{PAGE_BYTES, HEADER_BYTES}
 use Rattle.page_view.specs.Leaf.{leaf_bytes}
 use Rattle.tree_change.specs.Places.{leaf_on}
 use Rattle.tree_change.specs.Pages.{HasRows}
@@ -20,8 +20,8 @@ leaf_of-leaf-requires c = some_pages c.args.item.now.key c.args.path.now c.requi
 
 pub returns-clause-carries : goal.returns-clause-carries
 returns-clause-carries c =
-    let fits : used (leaf_on c.args.path.now).items ≤ PAGE_BYTES - HEADER_BYTES =
-    subst (λ (im : Image). used im.items ≤ PAGE_BYTES - HEADER_BYTES) c.leaf_of-leaf.ensures c.items_fit.ensures in
+    let fits : used (leaf_on c.args.path.now).items ≤ PAGE_BYTES - PAGE_HEADER_BYTES =
+    subst (λ (im : Image). used im.items ≤ PAGE_BYTES - PAGE_HEADER_BYTES) c.leaf_of-leaf.ensures c.items_fit.ensures in
     let change = with_item c.args.item.now.key (leaf_bytes c.args.item.now) in
     when_planned (size_of c.args.item.now ≤ room_for c.args.item.now.key c.leaf_of-leaf.result.now) (update_plan c.leaf_of-leaf.result.now c.args.item.now) (λ p. Carries c.args.item.now.key c.args.path.now p change) c.replace_in.result
     c.replace_in.ensures.room c.replace_in.ensures.plan

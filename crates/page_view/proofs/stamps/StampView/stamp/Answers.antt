@@ -6,7 +6,7 @@ use Rattle.page_view.proofs.stamps.StampView.stamp.Goals as goal
 
 pub returns : goal.returns
 returns c = (
-  c.if-i-ge-STAMPS_OF_A_PAGE.false,
+  c.if-i-ge-STAMPS_PER_PAGE.false,
   c.new.ensures ∙ c.get_u64.ensures
       ∙ ap (λ bytes. number 8 (drop (32 + 8 * c.args.i) bytes)) c.bytes.ensures.spelled
       ∙ stamp_at c.self.inside.page.now c.args.i c.self.invariant
