@@ -1,6 +1,6 @@
 -- How a search goes over pages that are handed to it: down to the leaf of a key, and along the leaves.
 use Rattle.std.specs.Prelude.{◌≡◌, ◌≤◌, ◌<◌, ◌+◌, ◌-◌, ◌==◌, ◌||◌, ◌&&◌, ◌⊎◌, ℕ, Bool, true, false, not, List, [], ◌∷◌, length, map, slice_get, Option, Some, None, nat_le, if◌then◌else◌, ⊤}
-use Rattle.rm_base.specs.declared.limits.TheConstants.{MAX_TREE_LEVEL}
+use Rattle.rm_base.specs.declared.limits.TheConstants.{MAX_PAGES, MAX_TREE_LEVEL}
 use Rattle.std.specs.List.{AllByRecursion}
 use Rattle.std.specs.Ordering.{is_lt, is_eq}
 use Rattle.page_image.specs.declared.kind.Kind.{Kind}
@@ -136,8 +136,8 @@ in_range low high item = from_low low item && to_high high item
 
 -- how many pages a search can still be given: each one brings it nearer to its end
 abbrev pub left_by : Want → ℕ → ℕ → ℕ
-left_by (Need page) depth passed = (9 - depth) + 32768
-left_by (Leaf page) depth passed = 32768 - passed
+left_by (Need page) depth passed = (9 - depth) + MAX_PAGES
+left_by (Leaf page) depth passed = MAX_PAGES - passed
 left_by Finished depth passed = 0
 
 abbrev pub pages_left : Walking → ℕ

@@ -6,7 +6,7 @@ ghost use Rattle.bplus_tree.specs.Walk.{Walking, start, wanted, IsToRead, IsLeaf
 use crate::steps::{child_for, reaches};
 use crate::want::{MOST_STEPS, Want};
 use page_image::{Kind, Page};
-use rm_base::{Bytes, KeyRange, MAX_TREE_LEVEL, PageId};
+use rm_base::{Bytes, KeyRange, MAX_PAGE_ID, MAX_TREE_LEVEL, PageId};
 use std::cmp::Ordering;
 use std::marker::Model;
 
@@ -28,7 +28,7 @@ impl Model for LeafWalk {
 
     ghost view = { λ it. record { low = it.range.low; high = it.range.high; want = it.want; depth = it.depth; passed = it.passed } };
 
-    ghost invariant = { λ it. (it.depth ≤ 8) × (it.passed ≤ 32767) };
+    ghost invariant = { λ it. (it.depth ≤ 8) × (it.passed ≤ MAX_PAGE_ID) };
 }
 
 impl LeafWalk {
@@ -46,7 +46,7 @@ impl LeafWalk {
     pub fn next(&self) -> Want
         ensures wanted { result ≡ self.now.want }
         ensures depth { self.now.depth ≤ 8 }
-        ensures passed { self.now.passed ≤ 32767 }
+        ensures passed { self.now.passed ≤ MAX_PAGE_ID }
     {
         self.want
     }

@@ -1,10 +1,10 @@
 ghost use Rattle.std.specs.Prelude.{◌≡◌};
 ghost use Rattle.bplus_tree.specs.Walk as walk;
 
-use rm_base::PageId;
+use rm_base::{MAX_PAGE_ID, PageId};
 
 /// How often a search goes on from a leaf at most: once less than there are pages.
-pub const MOST_STEPS: u32 = 32767;
+pub const MOST_STEPS: u32 = MAX_PAGE_ID;
 
 /// What a search asks for next.
 #[derive(Clone, Copy, Debug, PartialEq, Eq)]

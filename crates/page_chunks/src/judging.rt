@@ -5,7 +5,7 @@ ghost use Rattle.page_chunks.specs.Entries.{image_of, Stands, EachStands, EachAp
 use crate::entries::Entry;
 use materialiser::replay;
 use redo_record::Group;
-use rm_base::{PageId, WantOfMemory};
+use rm_base::{MAX_PAGES, PageId, WantOfMemory};
 use std::alloc::Global;
 
 /// Whether some record of the group is for the page.
@@ -36,7 +36,7 @@ pub(crate) fn all_apply(
     g: &Group,
 ) -> Result<bool, WantOfMemory>
     requires some { 1 ≤ g.now.lsn }
-    requires pages { first + length entries.now ≤ 32768 }
+    requires pages { first + length entries.now ≤ MAX_PAGES }
     requires stand { EachStands first (g.now.lsn - 1) entries.now }
     ensures { IfOk result (λ b. IsTrue b ↔ EachApplies first g.now entries.now) }
 {

@@ -1,6 +1,6 @@
 -- Where bytes break the rules of a page: at the first of them, in the order in which the rules stand here.
 use Rattle.std.specs.Prelude.{◌==◌, ◌&&◌, ◌||◌, ℕ, zero, suc, ◌+◌, ◌-◌, ◌*◌, Bool, List, [], ◌∷◌, length, Option, None, Some, slice_index, nat_lt, nat_le, if◌then◌else◌}
-use Rattle.rm_base.specs.declared.limits.TheConstants.{PAGE_BYTES, PAGE_HEADER_BYTES}
+use Rattle.rm_base.specs.declared.limits.TheConstants.{MAX_PAGE_ID, PAGE_BYTES, PAGE_HEADER_BYTES}
 use Rattle.std.specs.Option.{option_or, option_map}
 use Rattle.page_image.specs.declared.header.Header.{Header}
 use Rattle.page_image.specs.Image.{is_slotted, is_inner, has_body}
@@ -16,7 +16,7 @@ lsn_holds h = if is_slotted h.kind || has_body h.kind then nat_lt 0 h.lsn else h
 
 -- a page with items links to a page or to none, others to none
 abbrev pub next_holds : Header → Bool
-next_holds h = if is_slotted h.kind then nat_le h.next 32767 else h.next == 0
+next_holds h = if is_slotted h.kind then nat_le h.next MAX_PAGE_ID else h.next == 0
 
 -- `low` is the offset of the last item, or the page's end without one, and 0 on a page without items
 abbrev pub low_holds : List ℕ → Header → Bool
@@ -38,7 +38,7 @@ header_rules bytes =
     (0, nat_le (slice_index bytes 0) 6)
     ∷ (1, slice_index bytes 1 == 0)
     ∷ (2, slots_hold h)
-    ∷ (4, nat_le h.page 32767)
+    ∷ (4, nat_le h.page MAX_PAGE_ID)
     ∷ (8, lsn_holds h)
     ∷ (16, nat_le h.structure h.lsn)
     ∷ (24, next_holds h)

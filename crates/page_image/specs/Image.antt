@@ -1,6 +1,6 @@
 -- A page as its readers see it, and what each change of a page does to it.
 use Rattle.std.specs.Prelude.{◌≡◌, ◌≢◌, ◌≤◌, ◌<◌, ◌+◌, ◌-◌, ◌⊎◌, ◌==◌, ℕ, Bool, true, false, List, [], ◌++◌, length, take, drop, replicate, insert, remove, sum_by, if◌then◌else◌}
-use Rattle.rm_base.specs.declared.limits.TheConstants.{PAGE_BYTES, PAGE_HEADER_BYTES}
+use Rattle.rm_base.specs.declared.limits.TheConstants.{MAX_PAGE_ID, PAGE_BYTES, PAGE_HEADER_BYTES}
 use Rattle.page_image.specs.declared.kind.Kind.{Kind}
 use Rattle.page_image.specs.declared.kind.Kind.TheVariants.{Unmade, Meta, Slots, Stamps, Leaf, Inner, Undo}
 
@@ -152,7 +152,7 @@ cut_from im from lsn = record im { lsn = lsn; structure = lsn; items = take from
 -- the page can be linked to a page, or to none by 0
 pub record CanLink (im : Image) (next : ℕ) : Type 0 where
   pub slotted : is_slotted im.kind ≡ true
-  pub bound : next ≤ 32767
+  pub bound : next ≤ MAX_PAGE_ID
 
 abbrev pub linked : Image → ℕ → ℕ → Image
 linked im next lsn = record im { lsn = lsn; structure = lsn; next = next }

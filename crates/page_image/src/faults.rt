@@ -4,11 +4,11 @@ ghost use Rattle.page_image.specs.Layout.{end_of, header_at};
 ghost use Rattle.page_image.specs.Faults.{slots_hold, lsn_holds, next_holds, low_holds, level_holds, zero_end};
 ghost use Rattle.page_image.specs.Faults.{first_broken, header_rules, slot_holds, slot_fault, byte_fault, fault};
 
+use crate::MOST_SLOTS;
 use crate::header::Header;
 use crate::kind::Kind;
 use crate::layout::item_end;
-use crate::{LAST_PAGE, MOST_SLOTS, TOP_LEVEL};
-use rm_base::{PAGE_BYTES, PAGE_HEADER_BYTES};
+use rm_base::{MAX_PAGE_ID, MAX_TREE_LEVEL, PAGE_BYTES, PAGE_HEADER_BYTES};
 
 impl Header {
     fn slots_hold(&self) -> bool
@@ -35,7 +35,7 @@ impl Header {
         ensures { result ≡ next_holds self.now }
     {
         if self.kind.has_items() {
-            self.next <= LAST_PAGE
+            self.next <= MAX_PAGE_ID
         } else {
             self.next == 0
         }
@@ -57,7 +57,7 @@ impl Header {
         ensures { result ≡ level_holds self.now }
     {
         match self.kind {
-            Kind::Inner => 1 <= self.level && self.level <= TOP_LEVEL,
+            Kind::Inner => 1 <= self.level && self.level <= MAX_TREE_LEVEL,
             _ => self.level == 0,
         }
     }
@@ -92,7 +92,7 @@ fn header_fault(bytes: &[u8], header: &Header) -> Option<usize>
     if !header.slots_hold() {
         return Some(2);
     }
-    if header.page > LAST_PAGE {
+    if header.page > MAX_PAGE_ID {
         return Some(4);
     }
     if !header.lsn_holds() {

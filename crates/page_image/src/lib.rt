@@ -19,11 +19,5 @@ pub use page::Page;
 /// The largest number of items on a page: each has a byte and a slot of two.
 const MOST_SLOTS: u16 = 1354;
 
-/// The largest number of a page.
-const LAST_PAGE: u32 = 32767;
-
-/// The highest level of an inner page.
-const TOP_LEVEL: u8 = 8;
-
 #[cfg(test)]
 mod tests;

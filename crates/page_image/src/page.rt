@@ -7,14 +7,15 @@ ghost use Rattle.page_image.specs.Layout.{page_bytes};
 ghost use Rattle.page_image.specs.Rules.{IsImage, IsPage};
 ghost use Rattle.page_image.specs.Faults.{fault};
 
+use crate::changes;
 use crate::errors::BadPage;
 use crate::faults::first_fault;
 use crate::header::Header;
 use crate::kind::Kind;
 use crate::layout::item_end;
-use crate::{LAST_PAGE, TOP_LEVEL, changes};
 use rm_base::{
-    Duplicate, Lsn, PAGE_BYTES, PAGE_HEADER_BYTES, PageId, WantOfMemory, get_u16, get_u32, get_u64,
+    Duplicate, Lsn, MAX_PAGE_ID, MAX_TREE_LEVEL, PAGE_BYTES, PAGE_HEADER_BYTES, PageId,
+    WantOfMemory, get_u16, get_u32, get_u64,
 };
 use std::alloc::Global;
 use std::marker::Model;
@@ -113,7 +114,7 @@ impl Page {
     /// The page to the right, or 0.
     pub fn next(&self) -> u32
         ensures value { result ≡ self.now.next }
-        ensures bound { result ≤ 32767 }
+        ensures bound { result ≤ MAX_PAGE_ID }
     {
         get_u32(self.bytes.as_slice(), 24)
     }
@@ -163,7 +164,7 @@ impl Page {
     {
         let level_fits = match kind {
             Kind::Unmade => false,
-            Kind::Inner => 1 <= level && level <= TOP_LEVEL,
+            Kind::Inner => 1 <= level && level <= MAX_TREE_LEVEL,
             _ => level == 0,
         };
         let from = match self.kind() {
@@ -245,7 +246,7 @@ impl Page {
     pub fn can_link(&self, next: u32) -> bool
         ensures { IsTrue result ↔ CanLink self.now next }
     {
-        self.kind().has_items() && next <= LAST_PAGE
+        self.kind().has_items() && next <= MAX_PAGE_ID
     }
 
     /// Links the page to page `next`, or to none by 0.

@@ -7,8 +7,8 @@ use crate::{FIELDS_AT, FIRST_NUMBER, FORMAT, NO_STAMP};
 use page_image::Kind;
 use redo_record::{Record, Records};
 use rm_base::{
-    Bytes, CATALOG_ROOT_PAGE_ID, FIRST_FREE_PAGE_ID, FIRST_UNDO_PAGE_ID, META_PAGE_ID, PageId,
-    SLOTS_PAGE_ID, WantOfMemory, put_u32, put_u64,
+    Bytes, CATALOG_ROOT_PAGE_ID, FIRST_FREE_PAGE_ID, FIRST_UNDO_PAGE_ID, MAX_PAGE_ID, META_PAGE_ID,
+    PageId, SLOTS_PAGE_ID, WantOfMemory, put_u32, put_u64,
 };
 use std::alloc::Global;
 
@@ -43,7 +43,7 @@ fn meta_fields(alloc: Global) -> Result<Bytes, WantOfMemory>
 
 /// The record that makes a page that is no inner one.
 fn make(page: u32, kind: Kind) -> Record
-    requires { page ≤ 32767 }
+    requires { page ≤ MAX_PAGE_ID }
     ensures { result ≡ Make page kind 0 }
 {
     Record::Make {

@@ -1,5 +1,6 @@
 -- An inner item and its bytes.
 use Rattle.std.specs.Prelude.{◌≡◌, ◌≤◌, ◌+◌, ℕ, List, ◌∷◌, ◌++◌, length, take, drop, slice_index, Option, MatchOption}
+use Rattle.rm_base.specs.declared.limits.TheConstants.{MAX_PAGE_ID}
 use Rattle.rm_base.specs.Fields.{field, number}
 
 -- a key, and the page of the child that holds the keys from it on
@@ -14,7 +15,7 @@ inner_bytes inner = length inner.key ∷ (inner.key ++ field 4 inner.child)
 -- a key of at most 255 bytes and a page that there can be
 pub record IsInner (inner : InnerItem) : Type 0 where
   pub short_key : length inner.key ≤ 255
-  pub child : inner.child ≤ 32767
+  pub child : inner.child ≤ MAX_PAGE_ID
 
 -- the item's parts, by where they stand in the bytes
 abbrev pub inner_of : List ℕ → InnerItem
@@ -24,7 +25,7 @@ inner_of item =
 -- bytes that spell an inner item
 pub record HoldsInner (item : List ℕ) : Type 0 where
   pub long : length item ≡ 5 + slice_index item 0
-  pub child : number 4 (drop (1 + slice_index item 0) item) ≤ 32767
+  pub child : number 4 (drop (1 + slice_index item 0) item) ≤ MAX_PAGE_ID
 
 -- the inner item that the bytes spell, or none where they spell none
 abbrev pub IsInnerOrNone : List ℕ → Option InnerItem → Type 0

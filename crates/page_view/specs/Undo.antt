@@ -1,6 +1,6 @@
 -- An undo item and its bytes.
 use Rattle.std.specs.Prelude.{◌≡◌, ◌≤◌, ◌<◌, ◌+◌, ◌^◌, ◌==◌, ℕ, List, ◌∷◌, ◌++◌, length, take, drop, slice_index, Option, Some, None, MatchOption, if◌then◌else◌}
-use Rattle.rm_base.specs.declared.limits.TheConstants.{MAX_KEY_BYTES}
+use Rattle.rm_base.specs.declared.limits.TheConstants.{MAX_KEY_BYTES, MAX_PAGE_ID}
 use Rattle.rm_base.specs.Fields.{field, number}
 use Rattle.rm_base.specs.declared.places.UndoPtr.{UndoPtr}
 use Rattle.page_view.specs.declared.leaf.LeafItem.{LeafItem}
@@ -32,7 +32,7 @@ IsOld key (Some old) = IsLeaf old × (old.key ≡ key)
 -- an undo item within its limits, whose numbers fit their fields
 pub record IsUndo (undo : Undone) : Type 0 where
   pub trx : undo.trx < 2 ^ 64
-  pub root : undo.root ≤ 32767
+  pub root : undo.root ≤ MAX_PAGE_ID
   pub before_page : undo.before.page < 2 ^ 32
   pub before_slot : undo.before.slot < 2 ^ 16
   pub short_key : length undo.key ≤ MAX_KEY_BYTES
@@ -63,7 +63,7 @@ pub record HoldsOld (mark : ℕ) (old : List ℕ) : Type 0 where
 -- bytes that spell an undo item
 pub record HoldsUndo (item : List ℕ) : Type 0 where
   pub long : 19 < length item
-  pub root : number 4 (drop 8 item) ≤ 32767
+  pub root : number 4 (drop 8 item) ≤ MAX_PAGE_ID
   pub old : HoldsOld (slice_index item 18) (drop 19 item)
 
 -- the undo item that the bytes spell, or none where they spell none

@@ -5,7 +5,7 @@ ghost use Rattle.page_view.specs.Views.{IsPartOrNone, IsViewOf};
 
 use crate::search;
 use page_image::{Kind, Page};
-use rm_base::{PageId, get_u32};
+use rm_base::{MAX_PAGE_ID, PageId, get_u32};
 use std::marker::Model;
 
 /// An inner item where it stands in its page.
@@ -31,7 +31,7 @@ fn holds_inner(item: &[u8]) -> bool
         return false;
     };
     let key = usize::from(*length);
-    item.len() == 5 + key && get_u32(item, 1 + key) <= 32767
+    item.len() == 5 + key && get_u32(item, 1 + key) <= MAX_PAGE_ID
 }
 
 impl<'a> InnerRef<'a> {

@@ -4,7 +4,7 @@ ghost use Rattle.page_view.specs.Views.{IsPartOrNone, IsViewOf};
 
 use crate::leaf::{LeafRef, holds_leaf};
 use page_image::{Kind, Page};
-use rm_base::{MAX_KEY_BYTES, PageId, TrxId, UndoPtr, get_u16, get_u32, get_u64};
+use rm_base::{MAX_KEY_BYTES, MAX_PAGE_ID, PageId, TrxId, UndoPtr, get_u16, get_u32, get_u64};
 use std::marker::Model;
 
 /// The bytes of an undo item before its old item.
@@ -29,7 +29,7 @@ impl<'a> Model for UndoRef<'a> {
 fn holds_undo(item: &[u8]) -> bool
     ensures { IsTrue result ↔ HoldsUndo item.now }
 {
-    item.len() > HEAD && get_u32(item, 8) <= 32767 && holds_old(item[18], &item[HEAD..])
+    item.len() > HEAD && get_u32(item, 8) <= MAX_PAGE_ID && holds_old(item[18], &item[HEAD..])
 }
 
 fn holds_old(flag: u8, old: &[u8]) -> bool

@@ -1,6 +1,6 @@
 -- Reading fields and records from left to right. Each word gives what it read and the bytes after it, or none.
 use Rattle.std.specs.Prelude.{ℕ, ◌-◌, Bool, List, [], ◌∷◌, length, take, drop, Option, Some, None, option_and_then, nat_lt, nat_le, ◌==◌, ◌&&◌, if◌then◌else◌}
-use Rattle.rm_base.specs.declared.limits.TheConstants.{PAGE_BYTES, PAGE_HEADER_BYTES}
+use Rattle.rm_base.specs.declared.limits.TheConstants.{MAX_PAGE_ID, PAGE_BYTES, PAGE_HEADER_BYTES}
 use Rattle.rm_base.specs.Fields.{number}
 use Rattle.page_image.specs.declared.kind.Kind.{Kind}
 use Rattle.page_image.specs.declared.kind.Kind.TheVariants.{Inner}
@@ -29,7 +29,7 @@ taken_at n bytes = if nat_lt (length bytes) n then None else Some (take n bytes,
 unfoldable pub page_number_at : List ℕ → Option (ℕ × List ℕ)
 page_number_at bytes = do
   n ← number_at 4 bytes
-  if nat_le n.0 32767 then Some n else None
+  if nat_le n.0 MAX_PAGE_ID then Some n else None
 
 -- the kind that a page is made of; nothing is made unmade
 unfoldable pub kind_at : List ℕ → Option (Kind × List ℕ)

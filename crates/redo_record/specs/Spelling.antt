@@ -1,6 +1,6 @@
 -- The one spelling of each record, group and log in bytes. Numbers have their highest byte first.
 use Rattle.std.specs.Prelude.{◌≡◌, ◌≢◌, ◌≤◌, ◌<◌, ◌+◌, ◌-◌, ◌^◌, ℕ, List, [], ◌∷◌, ◌++◌, length, drop}
-use Rattle.rm_base.specs.declared.limits.TheConstants.{PAGE_BYTES, PAGE_HEADER_BYTES}
+use Rattle.rm_base.specs.declared.limits.TheConstants.{MAX_PAGE_ID, PAGE_BYTES, PAGE_HEADER_BYTES}
 use Rattle.std.specs.List.{flat_map, AllByRecursion}
 use Rattle.rm_base.specs.Fields.{field, AreBytes}
 use Rattle.page_image.specs.declared.kind.Kind.TheVariants.{Unmade}
@@ -53,16 +53,16 @@ IsAdmitted (Patch page at bytes) = FitsPage bytes
 IsAdmitted (InsertSlot page index bytes) = FitsPage bytes
 IsAdmitted (RemoveSlot page index) = Unit {0}
 IsAdmitted (Cut page from) = Unit {0}
-IsAdmitted (Link page next) = next ≤ 32767
+IsAdmitted (Link page next) = next ≤ MAX_PAGE_ID
 
 -- each field is of its type: of any record that the program has, this holds
 abbrev pub IsTyped : Record → Type 0
-IsTyped (Make page kind level) = page ≤ 32767
-IsTyped (Patch page at bytes) = (page ≤ 32767) × (at < 2 ^ 16) × AreBytes bytes
-IsTyped (InsertSlot page index bytes) = (page ≤ 32767) × (index < 2 ^ 16) × AreBytes bytes
-IsTyped (RemoveSlot page index) = (page ≤ 32767) × (index < 2 ^ 16)
-IsTyped (Cut page from) = (page ≤ 32767) × (from < 2 ^ 16)
-IsTyped (Link page next) = page ≤ 32767
+IsTyped (Make page kind level) = page ≤ MAX_PAGE_ID
+IsTyped (Patch page at bytes) = (page ≤ MAX_PAGE_ID) × (at < 2 ^ 16) × AreBytes bytes
+IsTyped (InsertSlot page index bytes) = (page ≤ MAX_PAGE_ID) × (index < 2 ^ 16) × AreBytes bytes
+IsTyped (RemoveSlot page index) = (page ≤ MAX_PAGE_ID) × (index < 2 ^ 16)
+IsTyped (Cut page from) = (page ≤ MAX_PAGE_ID) × (from < 2 ^ 16)
+IsTyped (Link page next) = page ≤ MAX_PAGE_ID
 
 -- what is read as a record
 abbrev pub IsRecord : Record → Type 0

@@ -1,5 +1,6 @@
 ghost use Rattle.std.specs.Prelude.{◌≡◌, ◌≤◌, ◌<◌, ◌^◌, SomeIff};
 
+use crate::limits::MAX_PAGE_ID;
 use std::marker::Model;
 
 /// A database node. n1 is 0.
@@ -109,7 +110,7 @@ impl Model for PageId {
 
     ghost view = { λ id. id.0 };
 
-    ghost invariant = { λ id. id.0 ≤ 32767 };
+    ghost invariant = { λ id. id.0 ≤ MAX_PAGE_ID };
 
     ghost inverse = { λ n. record { 0 = n } };
 }
@@ -117,14 +118,18 @@ impl Model for PageId {
 impl PageId {
     /// None past 32,767.
     pub const fn new(n: u32) -> Option<PageId>
-        ensures { SomeIff result (n ≤ 32767) n }
+        ensures { SomeIff result (n ≤ MAX_PAGE_ID) n }
     {
-        if n <= 32767 { Some(PageId(n)) } else { None }
+        if n <= MAX_PAGE_ID {
+            Some(PageId(n))
+        } else {
+            None
+        }
     }
 
     pub fn number(&self) -> u32
         ensures value { result ≡ self.now }
-        ensures bound { self.now ≤ 32767 }
+        ensures bound { self.now ≤ MAX_PAGE_ID }
     {
         self.0
     }

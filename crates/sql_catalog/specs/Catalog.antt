@@ -1,6 +1,6 @@
 -- A table as a row of the catalog.
 use Rattle.std.specs.Prelude.{◌≡◌, ◌≢◌, ◌≤◌, ◌<◌, ℕ, List, [], ◌∷◌, ◌++◌, length, drop, Option, MatchOption}
-use Rattle.rm_base.specs.declared.limits.TheConstants.{MAX_COLUMNS}
+use Rattle.rm_base.specs.declared.limits.TheConstants.{MAX_COLUMNS, MAX_PAGE_ID}
 use Rattle.std.specs.List.{AllByRecursion, flat_map}
 use Rattle.rm_base.specs.Fields.{field}
 use Rattle.sql_values.specs.declared.values.Value.{Value}
@@ -52,7 +52,7 @@ pub record IsTable (s : Schema) : Type 0 where
 pub record AreBounded (s : Schema) (root : ℕ) : Type 0 where
   pub table : IsName s.table
   pub columns : AllByRecursion IsNamed s.columns
-  pub page : root ≤ 32767
+  pub page : root ≤ MAX_PAGE_ID
 
 -- the column at the start of the bytes, with its length, or that there is none
 abbrev pub IsColumnOrNone : List ℕ → Option (Column × ℕ) → Type 0

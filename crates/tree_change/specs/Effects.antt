@@ -1,5 +1,6 @@
 -- What a plan's records do to a tree's pages.
 use Rattle.std.specs.Prelude.{◌≡◌, ◌≢◌, ◌≤◌, ◌<◌, ◌+◌, ◌⊎◌, ◌↔◌, ℕ, List, [], ◌∷◌, ◌++◌, length, Contains}
+use Rattle.rm_base.specs.declared.limits.TheConstants.{MAX_PAGES}
 use Rattle.std.specs.List.{AllByRecursion}
 use Rattle.page_image.specs.Image.{Image, unmade}
 use Rattle.redo_record.specs.declared.redo.Record.{Record}
@@ -68,7 +69,7 @@ pub record Counts (meta : Image) (pages : ℕ) : Type 0 where
 pub record MakesNext (meta : Image) (plan : Plan) : Type 0 where
   pub some : 1 ≤ length plan.made
   pub next : AllByRecursion (λ page. (count_of meta ≤ page) × (page < count_of meta + length plan.made)) plan.made
-  pub bound : count_of meta + length plan.made ≤ 32768
+  pub bound : count_of meta + length plan.made ≤ MAX_PAGES
 
 -- In each tree with the path, the plan's records apply in order to each page, and change only the plan's pages, which are pages of the tree,
 -- pages that the plan makes, and the meta page. After them the tree stands for the same items, on its pages and those that were made, and the meta page counts these too.

@@ -1,6 +1,6 @@
 -- The plans that split a page.
 use Rattle.std.specs.Prelude.{◌≡◌, ◌≤◌, ◌<◌, ◌+◌, ◌==◌, ℕ, Bool, true, false, List, [], ◌∷◌, ◌++◌, length, take, drop, slice_index, slice_index_or, Option, MatchOption, if◌then◌else◌}
-use Rattle.rm_base.specs.declared.limits.TheConstants.{MAX_RECORD_BYTES}
+use Rattle.rm_base.specs.declared.limits.TheConstants.{MAX_PAGE_ID, MAX_RECORD_BYTES}
 use Rattle.std.specs.List.{AllByRecursion}
 use Rattle.rm_base.specs.Fields.{field, number}
 use Rattle.page_image.specs.declared.kind.Kind.TheVariants.{Meta, Inner}
@@ -34,8 +34,8 @@ IsFirstFullOrNone item path found =
 
 -- there are pages for a split: two and a level for one of the root, where it is the root that lacks room, else one
 abbrev pub SpaceFor : Bool → Image → ℕ → Type 0
-SpaceFor true root count = (root.level < 8) × (count + 1 ≤ 32767)
-SpaceFor false root count = count ≤ 32767
+SpaceFor true root count = (root.level < 8) × (count + 1 ≤ MAX_PAGE_ID)
+SpaceFor false root count = count ≤ MAX_PAGE_ID
 
 -- the least number of items that take half a page or more with their slots; each half has an item
 pub record IsSplitPlace (items : List (List ℕ)) (at : ℕ) : Type 0 where

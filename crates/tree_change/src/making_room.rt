@@ -13,7 +13,7 @@ use crate::splitting::{first_full, plan_split};
 use page_image::Page;
 use page_view::LeafItem;
 use redo_record::{Path, Plan, TreeNo};
-use rm_base::WantOfMemory;
+use rm_base::{MAX_PAGE_ID, WantOfMemory};
 use std::alloc::Global;
 
 /// The plan that splits the root, which has too little room. SpaceFull also where its level is 8.
@@ -27,7 +27,7 @@ fn split_of_root(
     requires item { IsLeaf item.now }
     requires full { lacks_room item.now (page_on path.now 0) ≡ true }
     requires meta { IsMeta meta.now }
-    ensures room { IfOk result (λ answer. IsOk answer ↔ (((page_on path.now 0).level < 8) × (count_of meta.now + 1 ≤ 32767))) }
+    ensures room { IfOk result (λ answer. IsOk answer ↔ (((page_on path.now 0).level < 8) × (count_of meta.now + 1 ≤ MAX_PAGE_ID))) }
     ensures no { IfOk result (λ answer. IfErr answer (λ no. no ≡ TreeNo.SpaceFull)) }
     ensures keeps { IfOk result (λ answer. IfOk answer (λ plan. Keeps item.now.key path.now meta.now plan)) }
 {

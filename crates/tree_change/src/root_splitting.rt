@@ -18,7 +18,7 @@ use crate::splitting::{push_linked_to, split_of};
 use page_image::{Kind, Page};
 use page_view::LeafItem;
 use redo_record::{Path, Plan, Record, Records, TreeNo};
-use rm_base::{PageId, WantOfMemory};
+use rm_base::{MAX_PAGE_ID, PageId, WantOfMemory};
 use std::alloc::Global;
 
 /// The records that make the two pages of a root split.
@@ -99,7 +99,7 @@ pub(crate) fn split_root(
     requires item { IsLeaf item.now }
     requires full { lacks_room item.now root.now ≡ true }
     requires meta { meta.now.kind ≡ Kind.Meta }
-    ensures room { IfOk result (λ answer. IsOk answer ↔ (count_of meta.now + 1 ≤ 32767)) }
+    ensures room { IfOk result (λ answer. IsOk answer ↔ (count_of meta.now + 1 ≤ MAX_PAGE_ID)) }
     ensures no { IfOk result (λ answer. IfErr answer (λ no. no ≡ TreeNo.SpaceFull)) }
     ensures plan { IfOk result (λ answer. IfOk answer (λ plan. (at : ℕ) × IsSplitPlace root.now.items at
         × (plan ≡ root_split_plan root.now at meta.now))) }
@@ -132,7 +132,7 @@ pub fn plan_root_split(
     requires full { lacks_room item.now (page_on path.now 0) ≡ true }
     requires low { (page_on path.now 0).level < 8 }
     requires meta { IsMeta meta.now }
-    ensures room { IfOk result (λ answer. IsOk answer ↔ (count_of meta.now + 1 ≤ 32767)) }
+    ensures room { IfOk result (λ answer. IsOk answer ↔ (count_of meta.now + 1 ≤ MAX_PAGE_ID)) }
     ensures no { IfOk result (λ answer. IfErr answer (λ no. no ≡ TreeNo.SpaceFull)) }
     ensures plan { IfOk result (λ answer. IfOk answer (λ plan. IsRootSplit path.now meta.now plan)) }
     ensures keeps { IfOk result (λ answer. IfOk answer (λ plan. Keeps item.now.key path.now meta.now plan)) }

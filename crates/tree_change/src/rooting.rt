@@ -15,7 +15,7 @@ use crate::room::keeps_rules;
 use page_image::{Kind, Page};
 use page_view::LeafItem;
 use redo_record::{Path, Plan, PlanKind, Record};
-use rm_base::{PageId, PageList, WantOfMemory};
+use rm_base::{MAX_PAGE_ID, PageId, PageList, WantOfMemory};
 use std::alloc::Global;
 
 /// The plan, and besides the page becomes an empty leaf, and is counted.
@@ -60,7 +60,7 @@ pub fn plan_with_root(
     requires item { IsLeaf item.now }
     requires room { size_of item.now ≤ room_for item.now.key (leaf_on path.now) }
     requires meta { IsMeta meta.now }
-    requires next { count_of meta.now ≤ 32767 }
+    requires next { count_of meta.now ≤ MAX_PAGE_ID }
     ensures plan { IfOk result (λ plan. (put : Plan) × IsPut (leaf_on path.now) item.now put × (plan ≡ with_root put meta.now)) }
     ensures begins { IfOk result (λ plan. Begins item.now.key path.now meta.now plan (with_item item.now.key (leaf_bytes item.now))) }
 {

@@ -17,7 +17,7 @@ use crate::spelling::inner_item_bytes;
 use page_image::{Kind, Page};
 use page_view::LeafItem;
 use redo_record::{Path, Plan, PlanKind, Record, Records, TreeNo};
-use rm_base::{PageId, PageList, WantOfMemory};
+use rm_base::{MAX_PAGE_ID, PageId, PageList, WantOfMemory};
 use std::alloc::Global;
 
 /// The list of the pages.
@@ -105,7 +105,7 @@ pub(crate) fn split_below(
     requires item { IsLeaf item.now }
     requires full { lacks_room item.now page.now ≡ true }
     requires meta { meta.now.kind ≡ Kind.Meta }
-    ensures room { IfOk result (λ answer. IsOk answer ↔ (count_of meta.now ≤ 32767)) }
+    ensures room { IfOk result (λ answer. IsOk answer ↔ (count_of meta.now ≤ MAX_PAGE_ID)) }
     ensures no { IfOk result (λ answer. IfErr answer (λ no. no ≡ TreeNo.SpaceFull)) }
     ensures plan { IfOk result (λ answer. IfOk answer (λ plan. (at : ℕ) × IsSplitPlace page.now.items at
         × (plan ≡ split_plan item.now.key parent.now page.now at meta.now))) }
@@ -168,7 +168,7 @@ pub fn plan_split(
     requires item { IsLeaf item.now }
     requires full { (above : ℕ) × IsFirstFull item.now path.now (above + 1) }
     requires meta { IsMeta meta.now }
-    ensures room { IfOk result (λ answer. IsOk answer ↔ (count_of meta.now ≤ 32767)) }
+    ensures room { IfOk result (λ answer. IsOk answer ↔ (count_of meta.now ≤ MAX_PAGE_ID)) }
     ensures no { IfOk result (λ answer. IfErr answer (λ no. no ≡ TreeNo.SpaceFull)) }
     ensures plan { IfOk result (λ answer. IfOk answer (λ plan. IsSplit item.now path.now meta.now plan)) }
     ensures keeps { IfOk result (λ answer. IfOk answer (λ plan. Keeps item.now.key path.now meta.now plan)) }

@@ -19,6 +19,8 @@ ghost use Rattle.tree_timeline.specs.Steps.{KeepsShape, Step, Splits, RootSplits
 ghost use Rattle.tree_timeline.specs.Timeline.{Timeline};
 ghost use Rattle.tree_steps.specs.Groups.{FitsTree, FitsLeaf, IsElsewhere, left_at};
 
+use rm_base::MAX_PAGE_ID;
+
 /// The groups of a log are steps of a tree. It does nothing when it is run.
 pub fn step_laws()
     // Records that put items into leaves of a tree and take them out, and others that touch no page
@@ -67,13 +69,13 @@ pub fn step_laws()
 
     // A split of a page below the root is one, whichever change needs it: also the undoing of one.
     ensures split { (item : LeafItem) (path : List Image) (meta : Image) (plan : Plan) → IsMeta meta
-        → IsSplit item path meta plan → count_of meta ≤ 32767
+        → IsSplit item path meta plan → count_of meta ≤ MAX_PAGE_ID
         → (w : IsWayTo item.key path) → IsFresh w.pages meta plan → (lsn : ℕ)
         → Splits w.pages (pages_after lsn plan.records w.pages) w.tree.nodes lsn }
 
     // So is a split of the root.
     ensures root_split { (key : Key) (path : List Image) (meta : Image) (plan : Plan) → IsMeta meta
-        → IsRootSplit path meta plan → count_of meta + 1 ≤ 32767
+        → IsRootSplit path meta plan → count_of meta + 1 ≤ MAX_PAGE_ID
         → IsImage (page_on path 0) → (page_on path 0).level < 8
         → (w : IsWayTo key path) → IsFresh w.pages meta plan → (lsn : ℕ)
         → RootSplits w.pages (pages_after lsn plan.records w.pages) w.root w.tree.nodes lsn }

@@ -11,7 +11,7 @@ use crate::finding::{meta_page, way};
 use page_store::PageStore;
 use page_view::LeafItem;
 use redo_record::{Path, Plan, TreeNo};
-use rm_base::{Bytes, Items, PageId, TrxId, UndoPtr, WantOfMemory};
+use rm_base::{Bytes, Items, PageId, TrxId, UndoPtr, WantOfMemory, MAX_PAGE_ID};
 use std::alloc::Global;
 use tree_change::{plan_put, plan_room, plan_take, plan_with_root};
 
@@ -203,7 +203,7 @@ pub fn put_with_tree(
     requires forest { IsRoot (pages_of store.old) root }
     requires item { IsLeaf item.now }
     requires room { HasRoom (pages_of store.old) root item.now path.now }
-    requires next { count_of (pages_of store.old 0) ≤ 32767 }
+    requires next { count_of (pages_of store.old 0) ≤ MAX_PAGE_ID }
     ensures ok { (roots : List ℕ) (items : ℕ → List (List ℕ)) → Forest (pages_of store.old) roots items → Contains roots root
         → let new = count_of (pages_of store.old 0) in
         OnOk result (Forest (pages_of store.new) (roots ++ new ∷ []) (with_tree (with_tree items root (with_item item.now.key (leaf_bytes item.now) (items root))) new [])) }

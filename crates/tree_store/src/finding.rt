@@ -11,7 +11,7 @@ use bplus_tree::{Descent, LeafWalk, Want, search_laws};
 use page_image::Page;
 use page_store::PageStore;
 use redo_record::Path;
-use rm_base::{Bytes, Duplicate, Items, KeyRange, PageId, WantOfMemory};
+use rm_base::{Bytes, Duplicate, Items, KeyRange, PageId, WantOfMemory, MAX_PAGE_ID};
 use std::alloc::Global;
 use tree_change::count_of;
 
@@ -80,7 +80,7 @@ pub fn leaves_in(
 /// The next page that can be made. None where there are no more.
 pub fn next_page(store: &PageStore) -> Option<PageId>
     requires { (roots : List ℕ) × (items : ℕ → List (List ℕ)) × Forest (pages_of store.now) roots items }
-    ensures { SomeIff result (splits.count_of (pages_of store.now 0) ≤ 32767) (splits.count_of (pages_of store.now 0)) }
+    ensures { SomeIff result (splits.count_of (pages_of store.now 0) ≤ MAX_PAGE_ID) (splits.count_of (pages_of store.now 0)) }
 {
     PageId::new(count_of(meta_page(store)))
 }

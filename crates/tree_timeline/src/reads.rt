@@ -9,6 +9,8 @@ ghost use Rattle.tree_timeline.specs.Found.{FindsEach, SearchFinds};
 ghost use Rattle.tree_timeline.specs.Searching.{Searches, read_by};
 ghost use Rattle.tree_timeline.specs.Progress.{Progress, begin, Tells, ComesTo};
 
+use rm_base::MAX_PAGE_ID;
+
 /// What a read finds in a tree that changes while its pages are read. It does nothing when it is
 /// run.
 pub fn read_laws()
@@ -33,7 +35,7 @@ pub fn read_laws()
     // the way down stays until the next one is told, or the next one has an old structure number.
     // It ends only where the range does.
     ensures search { (at : PagesAt) (root from : ℕ) (items : ItemsAt)
-        → Timeline at root from items → root ≤ 32767
+        → Timeline at root from items → root ≤ MAX_PAGE_ID
         → (low high : Bound) (t : ℕ) (visits reads : List Visit)
         → Searches at from (start root low high) t visits reads
         → SearchFinds at reads items low high t }
@@ -46,7 +48,7 @@ pub fn read_laws()
         → (told : Visit) (next : Progress) → Tells at from new told next
         → ComesTo at from old (visits ++ told ∷ []) (reads ++ read_by new.search.want told) next }
     ensures finished { (at : PagesAt) (root from : ℕ) (items : ItemsAt)
-        → Timeline at root from items → root ≤ 32767
+        → Timeline at root from items → root ≤ MAX_PAGE_ID
         → (low high : Bound) (t : ℕ) (visits reads : List Visit) (new : Progress)
         → ComesTo at from (begin root low high t) visits reads new → new.search.want ≡ Finished
         → SearchFinds at reads items low high t }

@@ -1,6 +1,6 @@
 -- Stated: the undo item that stands at a place of a page.
 use Rattle.std.specs.Prelude.{◌+◌, ℕ, Bool, true, false, List, length, drop, nat_eq, nat_lt, nat_le, slice_index, slice_get, if◌then◌else◌, ◌&&◌, Option, Some, None, option_and_then}
-use Rattle.rm_base.specs.declared.limits.TheConstants.{MAX_KEY_BYTES, MAX_RECORD_BYTES, RECORD_OVERHEAD_BYTES}
+use Rattle.rm_base.specs.declared.limits.TheConstants.{MAX_KEY_BYTES, MAX_PAGE_ID, MAX_RECORD_BYTES, RECORD_OVERHEAD_BYTES}
 use Rattle.rm_base.specs.Fields.{number}
 use Rattle.rm_base.specs.declared.places.UndoPtr.{UndoPtr}
 use Rattle.page_image.specs.declared.kind.Kind.{Kind}
@@ -23,7 +23,7 @@ holds_old mark old = if nat_eq mark 0 then holds_key old else (nat_eq mark 1 && 
 
 unfoldable pub holds_undo : List ℕ → Bool
 holds_undo item =
-    nat_lt 19 (length item) && nat_le (number 4 (drop 8 item)) 32767 && holds_old (slice_index item 18) (drop 19 item)
+    nat_lt 19 (length item) && nat_le (number 4 (drop 8 item)) MAX_PAGE_ID && holds_old (slice_index item 18) (drop 19 item)
 
 -- the parts of an undo item
 abbrev pub item_of : Undone → UndoItem

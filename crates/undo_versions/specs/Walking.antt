@@ -1,5 +1,6 @@
 -- Stated: a walk along the versions of an item.
 use Rattle.std.specs.Prelude.{ℕ, Bool, false, nat_eq, nat_le, if◌then◌else◌, Option, Some, None, option_and_then}
+use Rattle.rm_base.specs.declared.limits.TheConstants.{MAX_PAGE_ID}
 use Rattle.rm_base.specs.declared.places.UndoPtr.{UndoPtr}
 use Rattle.page_image.specs.Image.{Image}
 use Rattle.page_view.specs.declared.leaf.LeafItem.{LeafItem}
@@ -34,7 +35,7 @@ ended = record { version = None; next = no_undo }
 
 -- a page that there is, and that is not page 0
 abbrev pub is_page : ℕ → Bool
-is_page page = if nat_eq page 0 then false else nat_le page 32767
+is_page page = if nat_eq page 0 then false else nat_le page MAX_PAGE_ID
 
 -- what a walk wants where it has no version: the page of the older one
 abbrev pub want_at : UndoPtr → ChainWant

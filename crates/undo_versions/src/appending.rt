@@ -11,7 +11,7 @@ use crate::items::UndoItem;
 use crate::spelling::item_bytes;
 use page_image::{Kind, Page};
 use redo_record::{Record, Records, TreeNo};
-use rm_base::{Bytes, PageId, UndoPtr, WantOfMemory};
+use rm_base::{Bytes, MAX_PAGES, PageId, UndoPtr, WantOfMemory};
 use std::alloc::Global;
 
 /// Where an undo item goes, the records that put it there, and the page that they make, if any.
@@ -100,7 +100,7 @@ pub fn append_plan(
     requires undo { undo.now.kind ≡ Kind.Undo }
     requires item { IsUndo (undone_of item.now) }
     ensures full { IfOk result (λ answer.
-        IsErr answer ↔ (NeedsPage undo.now item.now × (32768 ≤ spec.page_count meta.now))) }
+        IsErr answer ↔ (NeedsPage undo.now item.now × (MAX_PAGES ≤ spec.page_count meta.now))) }
     ensures no { IfOk result (λ answer. IfErr answer (λ no. no ≡ TreeNo.SpaceFull)) }
     ensures step { IfOk result (λ answer. IfOk answer (λ step.
         step ≡ spec.undo_step meta.now undo.now item.now)) }
