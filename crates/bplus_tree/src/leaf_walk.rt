@@ -22,13 +22,14 @@ pub struct LeafWalk {
 
 impl Model for LeafWalk {
     ghost use Rattle.std.specs.Prelude.{◌≤◌};
+    ghost use Rattle.rm_base.specs.declared.limits.TheConstants.{MAX_PAGE_ID, MAX_TREE_LEVEL};
     ghost use Rattle.bplus_tree.specs.Walk.{Walking};
 
     ghost Value = { Walking };
 
     ghost view = { λ it. record { low = it.range.low; high = it.range.high; want = it.want; depth = it.depth; passed = it.passed } };
 
-    ghost invariant = { λ it. (it.depth ≤ 8) × (it.passed ≤ MAX_PAGE_ID) };
+    ghost invariant = { λ it. (it.depth ≤ MAX_TREE_LEVEL) × (it.passed ≤ MAX_PAGE_ID) };
 }
 
 impl LeafWalk {

@@ -3,6 +3,7 @@ use Rattle.std.proofs.Common.{◌≡◌, ℕ, zero, suc, ◌≤◌, ◌+◌, ◌
 use Rattle.std.specs.Str.{bytes_eq}
 use Rattle.std.proofs.Math.Path.{fun_ext}
 use Rattle.std.specs.Option.{option_map_or}
+use Rattle.sql_values.specs.Tables.{table_named}
 use Rattle.sql_values.specs.declared.schemas.Schema.{Schema}
 use Rattle.row_codec.specs.Keys.{key_bytes}
 use Rattle.row_codec.specs.Records.{key_cell}
@@ -14,7 +15,7 @@ use Rattle.history.specs.Places.{is_at, says, over}
 use Rattle.history.specs.Timelines.{timeline_of, content_after, content_at}
 use Rattle.sql_database.specs.Applied.{placed, with_table, with_row, with_catalog, applied}
 use Rattle.sql_database.specs.Catalog.{is_of_catalog, schema_of}
-use Rattle.sql_database.specs.Database.{table_named, key_place, row_key, Database}
+use Rattle.sql_database.specs.Database.{key_place, row_key, Database}
 use Rattle.sql_database.specs.declared.changes.Change.{Change}
 use Rattle.table_machine.specs.Machine.{after_commits, committed, Machine}
 use Rattle.version_store.proofs.Places.{bytes_apart, bytes_differ, bytes_of, bytes_same, bytes_self, either_name}

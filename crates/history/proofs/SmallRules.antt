@@ -2,6 +2,7 @@
 use Rattle.std.proofs.Common.{◌≡◌, ℕ, zero, Bool, true, false, Option, Some, None, List, [], ◌∷◌, Ok, Err, if◌then◌else◌, is_some, codes, arith, refl, sym, subst, ap, ◌∙◌}
 use Rattle.std.specs.Str.{bytes_eq}
 use Rattle.std.specs.Option.{option_map_or}
+use Rattle.sql_values.specs.Tables.{table_named}
 use Rattle.sql_values.specs.declared.schemas.Schema.{Schema}
 use Rattle.sql_values.specs.declared.values.Value.{Value}
 use Rattle.row_codec.specs.Keys.{key_bytes}
@@ -10,7 +11,7 @@ use Rattle.sql_statements.specs.declared.statements.Stmt.{Stmt}
 use Rattle.sql_statements.specs.declared.statements.Stmt.TheVariants as stmt
 use Rattle.sql_database.specs.Answers.{refused, rows, wants}
 use Rattle.sql_database.specs.Catalog.{creation, schema_row}
-use Rattle.sql_database.specs.Database.{Database, SameContent, table_named}
+use Rattle.sql_database.specs.Database.{Database, SameContent}
 use Rattle.sql_database.specs.Fitting.{AreKnown, FitsAll, IsProper, NamesNoCatalog}
 use Rattle.sql_database.specs.Rules.{AnswerRules, IsFair}
 use Rattle.sql_database.specs.declared.changes.Change.{Change}

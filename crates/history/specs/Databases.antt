@@ -1,9 +1,10 @@
 -- Stated: when a content by name and key stands for a database.
 use Rattle.std.specs.Prelude.{◌≡◌, ℕ, false, Option, Some, None, List, [], ◌∷◌, if◌then◌else◌, bytes_eq, option_map}
 use Rattle.std.specs.declared.cmp.Ordering.{Ordering}
+use Rattle.sql_values.specs.Tables.{table_named}
 use Rattle.sql_values.specs.Order.{text_cmp}
 use Rattle.sql_database.specs.Catalog.{schema_of}
-use Rattle.sql_database.specs.Database.{Database, row_key, table_named}
+use Rattle.sql_database.specs.Database.{Database, row_key}
 use Rattle.version_store.specs.Contents.{Content, catalog_name}
 use Rattle.version_store.specs.Versions.{Row}
 

@@ -1,6 +1,7 @@
 -- Stated: a language of a few statements, for a run by computation. INSERT writes one row, the names of its columns.
 use Rattle.std.specs.Prelude.{◌≡◌, ℕ, List, [], ◌∷◌, Option, Some, None, Result, Ok, Err, bytes_eq, codes, if◌then◌else◌, is_some, map}
 use Rattle.std.specs.Option.{option_map_or}
+use Rattle.sql_values.specs.Tables.{table_named}
 use Rattle.sql_values.specs.declared.schemas.Schema.{Schema}
 use Rattle.sql_values.specs.declared.values.Sort.TheVariants as sort
 use Rattle.sql_values.specs.declared.values.Value.TheVariants.{Text}
@@ -11,7 +12,7 @@ use Rattle.sql_statements.specs.declared.statements.Stmt.{Stmt}
 use Rattle.sql_statements.specs.declared.statements.Stmt.TheVariants as stmt
 use Rattle.sql_database.specs.Answers.{Answer, refused, rows, wants}
 use Rattle.sql_database.specs.Catalog.{creation}
-use Rattle.sql_database.specs.Database.{Database, table_named}
+use Rattle.sql_database.specs.Database.{Database}
 use Rattle.sql_database.specs.declared.changes.Change.{Change}
 use Rattle.sql_database.specs.declared.replies.SqlReply.TheVariants as reply
 use Rattle.table_machine.specs.Language.{Language}

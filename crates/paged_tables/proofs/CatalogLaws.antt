@@ -12,6 +12,7 @@ use Rattle.std.proofs.lemmas.Map.Text.{is_eq-slice_cmp}
 use Rattle.rm_base.specs.Fields.{field}
 use Rattle.rm_base.specs.declared.key_range.KeyRange.{KeyRange}
 use Rattle.rm_base.proofs.FieldLaws.{length-field}
+use Rattle.sql_values.specs.Tables.{IsNamed, IsTable}
 use Rattle.page_image.specs.Image.{Image}
 use Rattle.tree_store.specs.Forest.{Forest}
 use Rattle.sql_database.specs.Database.{Database}
@@ -27,7 +28,7 @@ use Rattle.row_codec.specs.Keys.{key_bytes}
 use Rattle.row_codec.specs.Records.{IsRecord, key_cell, record_length, value_bytes}
 use Rattle.row_codec.specs.Reading.{IsRowOrNone}
 use Rattle.row_codec.proofs.ReadingLaws.{one_row}
-use Rattle.sql_catalog.specs.Catalog.{IsNamed, IsTable, AreBounded, IsTableOrNone, catalog_row, column_bytes, columns_bytes, schema_bytes}
+use Rattle.sql_catalog.specs.Catalog.{AreBounded, IsTableOrNone, catalog_row, column_bytes, columns_bytes, schema_bytes}
 use Rattle.sql_catalog.proofs.Spelled.{one_table}
 use Rattle.sql_meaning.specs.Ranges.{in_range}
 use Rattle.paged_tables.specs.Items.{Entry, live_item, entry_item, entry_items, entry_named}

@@ -19,7 +19,7 @@ use Rattle.tree_store.proofs.ForestLaws.{not_a_root}
 use Rattle.sql_values.specs.declared.schemas.Schema.{Schema}
 use Rattle.sql_values.specs.declared.values.Value.{Value}
 use Rattle.row_codec.specs.Records.{IsRecord, value_bytes}
-use Rattle.sql_meaning.specs.Names.{table_named}
+use Rattle.sql_values.specs.Tables.{table_named}
 use Rattle.sql_meaning.specs.Ranges.{in_range}
 use Rattle.sql_database.specs.declared.changes.Change.{Change}
 use Rattle.sql_database.specs.Database.{Database}

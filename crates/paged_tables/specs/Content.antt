@@ -9,8 +9,8 @@ use Rattle.sql_values.specs.declared.schemas.Schema.{Schema}
 use Rattle.sql_values.specs.declared.values.Value.{Value}
 use Rattle.row_codec.specs.Keys.{key_bytes}
 use Rattle.row_codec.specs.Records.{IsRecord, key_cell, value_bytes}
-use Rattle.sql_catalog.specs.Catalog.{IsTable, AreBounded}
-use Rattle.sql_meaning.specs.Names.{table_named}
+use Rattle.sql_catalog.specs.Catalog.{AreBounded}
+use Rattle.sql_values.specs.Tables.{IsTable, table_named}
 use Rattle.sql_database.specs.Database.{Database}
 use Rattle.paged_tables.specs.Items.{Entry, entry_items, entry_named, row_items}
 

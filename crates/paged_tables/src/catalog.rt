@@ -1,8 +1,9 @@
 ghost use Rattle.std.specs.Prelude.{◌≡◌, ◌≤◌, ℕ, List, codes, IfOk, Some, option_map};
+ghost use Rattle.sql_values.specs.Tables.{IsTable};
 ghost use Rattle.page_view.specs.Leaf.{IsLeaf, leaf_bytes};
 ghost use Rattle.page_store.specs.Stored.{pages_of};
 ghost use Rattle.row_codec.specs.Records.{value_bytes};
-ghost use Rattle.sql_catalog.specs.Catalog.{IsTable, AreBounded, catalog_row};
+ghost use Rattle.sql_catalog.specs.Catalog.{AreBounded, catalog_row};
 ghost use Rattle.sql_database.specs.Database.{Database};
 ghost use Rattle.paged_tables.specs.Items.{Entry, entry_item, entry_named, live_item};
 ghost use Rattle.paged_tables.specs.Catalog.{catalog_schema, catalog_value};

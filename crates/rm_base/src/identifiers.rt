@@ -105,6 +105,7 @@ pub struct PageId(u32);
 
 impl Model for PageId {
     ghost use Rattle.std.specs.Prelude.{ℕ, ◌≤◌};
+    ghost use Rattle.rm_base.specs.declared.limits.TheConstants.{MAX_PAGE_ID};
 
     ghost Value = { ℕ };
 

@@ -5,12 +5,13 @@ use Rattle.std.proofs.lemmas.List.{take-append-drop}
 use Rattle.std.proofs.Math.Seq.{drop-cons}
 use Rattle.rm_base.specs.Fields.{field, number, AreBytes}
 use Rattle.rm_base.proofs.FieldLaws.{length-field, number-field, number-lt, field-number}
+use Rattle.sql_values.specs.Tables.{IsNamed}
 use Rattle.sql_values.specs.declared.values.Value.TheVariants.{Text}
 use Rattle.sql_values.specs.declared.values.Sort.{Sort}
 use Rattle.sql_values.specs.declared.values.Sort.TheVariants as sort
 use Rattle.sql_values.specs.declared.schemas.Column.{Column}
 use Rattle.sql_values.specs.declared.schemas.Schema.{Schema}
-use Rattle.sql_catalog.specs.Catalog.{sort_number, column_bytes, columns_bytes, schema_bytes, IsNamed, AreBounded, OneTable}
+use Rattle.sql_catalog.specs.Catalog.{sort_number, column_bytes, columns_bytes, schema_bytes, AreBounded, OneTable}
 
 one_sort : (a b : Sort) → sort_number a ≡ sort_number b → a ≡ b
 one_sort sort.Int sort.Int e = refl

@@ -1,6 +1,6 @@
 -- A table as a row of the catalog.
 use Rattle.std.specs.Prelude.{◌≡◌, ◌≢◌, ◌≤◌, ◌<◌, ℕ, List, [], ◌∷◌, ◌++◌, length, drop, Option, MatchOption}
-use Rattle.rm_base.specs.declared.limits.TheConstants.{MAX_COLUMNS, MAX_PAGE_ID}
+use Rattle.rm_base.specs.declared.limits.TheConstants.{MAX_PAGE_ID}
 use Rattle.std.specs.List.{AllByRecursion, flat_map}
 use Rattle.rm_base.specs.Fields.{field}
 use Rattle.sql_values.specs.declared.values.Value.{Value}
@@ -9,6 +9,7 @@ use Rattle.sql_values.specs.declared.values.Sort.{Sort}
 use Rattle.sql_values.specs.declared.values.Sort.TheVariants as sort
 use Rattle.sql_values.specs.declared.schemas.Column.{Column}
 use Rattle.sql_values.specs.declared.schemas.Schema.{Schema}
+use Rattle.sql_values.specs.Tables.{IsName, IsNamed, IsTable}
 
 abbrev pub sort_number : Sort → ℕ
 sort_number sort.Int = 1
@@ -28,25 +29,6 @@ schema_bytes s root = field 4 root ++ (s.key ∷ (length s.columns ∷ columns_b
 -- the name of the table is the key of its row
 abbrev pub catalog_row : Schema → ℕ → List Value
 catalog_row s root = Text s.table ∷ (Text (schema_bytes s root) ∷ [])
-
--- a name has 1 to 32 bytes
-abbrev pub IsName : List ℕ → Type 0
-IsName name = (0 < length name) × (length name ≤ 32)
-
-abbrev pub IsNamed : Column → Type 0
-IsNamed c = IsName c.name
-
--- no two columns have one name
-abbrev pub Differ : List Column → Type 0
-Differ [] = Unit {0}
-Differ (c ∷ cs) = AllByRecursion (λ d. d.name ≢ c.name) cs × Differ cs
-
--- a schema that a table can have: 1 to 16 columns of different names, one of which is the key
-pub record IsTable (s : Schema) : Type 0 where
-  pub some : 1 ≤ length s.columns
-  pub few : length s.columns ≤ MAX_COLUMNS
-  pub differ : Differ s.columns
-  pub key : s.key < length s.columns
 
 -- names within their bounds, and a page that there can be
 pub record AreBounded (s : Schema) (root : ℕ) : Type 0 where

@@ -1,6 +1,7 @@
 ghost use Rattle.std.specs.Prelude.{◌≡◌, ℕ, IfOk, MatchOption};
+ghost use Rattle.sql_values.specs.Tables.{IsName, IsTable};
 ghost use Rattle.sql_values.specs.declared.schemas.Schema.{Schema};
-ghost use Rattle.sql_catalog.specs.Catalog.{IsTableOrNone, IsColumnOrNone, AreColumnsOrNone, OneTable, IsTable, AreBounded, IsName, schema_bytes, sort_number};
+ghost use Rattle.sql_catalog.specs.Catalog.{IsTableOrNone, IsColumnOrNone, AreColumnsOrNone, OneTable, AreBounded, schema_bytes, sort_number};
 
 use crate::tables::is_table;
 use rm_base::{Bytes, Name, PageId, WantOfMemory, get_u32};

@@ -1,5 +1,6 @@
 ghost use Rattle.std.specs.Prelude.{◌≡◌, ◌≤◌, ◌++◌, length, IfOk, OnOk};
-ghost use Rattle.sql_catalog.specs.Catalog.{IsTable, catalog_row, schema_bytes, column_bytes, columns_bytes, sort_number};
+ghost use Rattle.sql_values.specs.Tables.{IsTable};
+ghost use Rattle.sql_catalog.specs.Catalog.{catalog_row, schema_bytes, column_bytes, columns_bytes, sort_number};
 
 use rm_base::{Bytes, Duplicate, PageId, WantOfMemory, put_u32};
 use sql_values::{Column, Row, Schema, Sort, Value};

@@ -1,6 +1,6 @@
 ghost use Rattle.std.specs.Prelude.{◌≢◌, IsTrue, ◌↔◌};
 ghost use Rattle.std.specs.List.{AllByRecursion};
-ghost use Rattle.sql_catalog.specs.Catalog.{IsTable, Differ};
+ghost use Rattle.sql_values.specs.Tables.{Differ, IsTable};
 
 use rm_base::MAX_COLUMNS;
 use sql_values::{Column, Schema};

@@ -1,5 +1,5 @@
 ghost use Rattle.std.specs.Prelude.{IfOk, IfSome};
-ghost use Rattle.sql_catalog.specs.Catalog.{IsTable};
+ghost use Rattle.sql_values.specs.Tables.{IsTable};
 
 use crate::*;
 use rm_base::{Bytes, Name, PageId, WantOfMemory};

@@ -5,11 +5,12 @@ use Rattle.sql_values.specs.declared.schemas.Schema.{Schema}
 use Rattle.sql_database.specs.declared.changes.Change.{Change}
 use Rattle.sql_database.specs.Applied.{changed, placed, with_catalog, with_row, with_rows, with_table}
 use Rattle.sql_database.specs.Catalog.{is_of_catalog, schema_of}
-use Rattle.sql_database.specs.Database.{Database, SameContent, Tables, row_key, table_named}
+use Rattle.sql_database.specs.Database.{Database, SameContent, Tables, row_key}
 use Rattle.sql_database.specs.Laws.{AppliedRespects, SameContentIsSame}
 use Rattle.row_codec.specs.Keys.{key_bytes}
 use Rattle.row_codec.specs.Records.{key_cell}
 use Rattle.std.specs.Option.{option_map_or}
+use Rattle.sql_values.specs.Tables.{table_named}
 
 pub itself : (d : Database) → SameContent d d
 itself d = record { schemas = λ t. refl; rows = λ t. refl }

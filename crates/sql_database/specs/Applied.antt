@@ -2,6 +2,7 @@
 use Rattle.std.specs.Prelude.{ℕ, if◌then◌else◌, List, [], ◌∷◌, ◌++◌, fold, filter, Option, option_and_then, option_to_list, slice_get, unwrap_or, bytes_eq}
 use Rattle.std.specs.Option.{option_map_or}
 use Rattle.std.specs.Ordering.{is_lt, is_gt}
+use Rattle.sql_values.specs.Tables.{table_named}
 use Rattle.sql_values.specs.declared.values.Sort.{Sort}
 use Rattle.sql_values.specs.declared.values.Sort.TheVariants as sort
 use Rattle.sql_values.specs.declared.values.Value.{Value}
@@ -11,7 +12,7 @@ use Rattle.sql_values.specs.Order.{text_cmp}
 use Rattle.row_codec.specs.Reading.{read_key}
 use Rattle.sql_database.specs.declared.changes.Change.{Change}
 use Rattle.sql_database.specs.Catalog.{is_of_catalog, schema_of}
-use Rattle.sql_database.specs.Database.{Database, Tables, row_key, table_named}
+use Rattle.sql_database.specs.Database.{Database, Tables, row_key}
 
 -- the rows with lesser keys, the row that stands under this key, if any, and those with greater keys
 abbrev pub placed : (List Value → List ℕ) → List ℕ → Option (List Value) → List (List Value) → List (List Value)

@@ -1,8 +1,9 @@
 -- Stated: a database, and when two have the same content.
-use Rattle.std.specs.Prelude.{◌≡◌, ℕ, List, [], Option, bytes_eq, find}
+use Rattle.std.specs.Prelude.{◌≡◌, ℕ, List, []}
 use Rattle.std.specs.Option.{option_map_or}
 use Rattle.sql_values.specs.declared.values.Value.{Value}
 use Rattle.sql_values.specs.declared.schemas.Schema.{Schema}
+use Rattle.sql_values.specs.Tables.{table_named}
 use Rattle.row_codec.specs.Keys.{key_bytes}
 use Rattle.row_codec.specs.Records.{key_cell}
 
@@ -17,10 +18,6 @@ pub record Database : Type 0 where
 
 abbrev pub empty : Database
 empty = record { schemas = []; tables = λ t. [] }
-
--- the schema of the table with that name
-abbrev pub table_named : List Schema → List ℕ → Option Schema
-table_named schemas name = find (λ s. bytes_eq s.table name) schemas
 
 -- which column is a table's key
 abbrev pub key_place : Database → List ℕ → ℕ

@@ -1,5 +1,6 @@
 -- Stated: changes that fit a database.
 use Rattle.std.specs.Prelude.{◌≡◌, ◌≢◌, true, false, List, [], ◌∷◌, codes, Some, None, bytes_eq}
+use Rattle.sql_values.specs.Tables.{table_named}
 use Rattle.sql_values.specs.declared.values.Value.{Value}
 use Rattle.sql_values.specs.declared.schemas.Schema.{Schema}
 use Rattle.row_codec.specs.Keys.{key_bytes}
@@ -9,7 +10,7 @@ use Rattle.sql_statements.specs.declared.statements.Stmt.TheVariants as stmt
 use Rattle.sql_database.specs.declared.changes.Change.{Change}
 use Rattle.sql_database.specs.Applied.{changed}
 use Rattle.sql_database.specs.Catalog.{is_of_catalog, schema_of}
-use Rattle.sql_database.specs.Database.{Database, table_named}
+use Rattle.sql_database.specs.Database.{Database}
 
 -- no table has the catalog's word for its name
 abbrev pub NamesNoCatalog : Database → Type 0

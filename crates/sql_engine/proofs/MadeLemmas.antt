@@ -8,7 +8,7 @@ use Rattle.sql_values.specs.declared.schemas.Column.{Column}
 use Rattle.sql_values.specs.declared.schemas.Schema.{Schema}
 use Rattle.sql_statements.specs.declared.statements.Stmt.{Stmt}
 use Rattle.sql_statements.specs.declared.statements.Stmt.TheVariants as stmt
-use Rattle.sql_meaning.specs.Names.{table_named}
+use Rattle.sql_values.specs.Tables.{table_named}
 use Rattle.sql_database.specs.declared.changes.Change.{Change}
 use Rattle.sql_exec.specs.declared.outcomes.Outcome.TheVariants as outcome
 use Rattle.sql_database.specs.declared.replies.SqlReply.{SqlReply}

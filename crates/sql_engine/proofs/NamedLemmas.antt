@@ -4,13 +4,14 @@ use Rattle.std.specs.List.{AllByRecursion}
 use Rattle.std.specs.Option.{option_map_or, option_or}
 use Rattle.std.specs.Str.{bytes_eq}
 use Rattle.std.proofs.lemmas.Slice.Eq.{bytes_eq-Decides}
+use Rattle.sql_values.specs.Tables.{table_named}
 use Rattle.sql_values.specs.declared.schemas.Schema.{Schema}
 use Rattle.sql_statements.specs.declared.statements.Stmt.{Stmt}
 use Rattle.sql_statements.specs.declared.statements.Stmt.TheVariants as stmt
 use Rattle.sql_meaning.specs.declared.fields.Field.{Field}
 use Rattle.sql_meaning.specs.declared.refusals.Refusal.{Refusal}
 use Rattle.sql_meaning.specs.declared.refusals.Refusal.TheVariants.{TableExists, NoTable, NoColumn, WrongType}
-use Rattle.sql_meaning.specs.Names.{table_named, table_fields, tables, scope, table_mentions, tuple_mentions, first_unknown}
+use Rattle.sql_meaning.specs.Names.{table_fields, tables, scope, table_mentions, tuple_mentions, first_unknown}
 use Rattle.sql_meaning.specs.Places.{placed_action}
 use Rattle.sql_meaning.specs.Refusals.{refusal, exists, first_missing, table_refusal, unknown_column, has_right_types, set_key, counts_match, is_right}
 use Rattle.sql_exec.specs.declared.rows.RangeRows.{RangeRows}

@@ -14,7 +14,7 @@ use Rattle.sql_statements.specs.declared.statements.Select.{Select}
 use Rattle.sql_statements.specs.declared.statements.SetItem.{SetItem}
 use Rattle.sql_statements.specs.declared.statements.Stmt.{Stmt}
 use Rattle.sql_statements.specs.declared.statements.Stmt.TheVariants as stmt
-use Rattle.sql_meaning.specs.Names.{table_named}
+use Rattle.sql_values.specs.Tables.{table_named}
 use Rattle.sql_meaning.specs.Ranges.{Bound, KeyPlaces, bounds_of, end_of, greatest, least, in_range, in_ranges, is_above, is_high, is_low, key_place, key_places, left_ranges, range_at, range_between, ranges, right_ranges, statement_test, test_ranges, width_of}
 use Rattle.sql_meaning.specs.Refusals.{refusal}
 use Rattle.sql_database.specs.Database.{Tables}

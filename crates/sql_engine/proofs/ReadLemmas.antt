@@ -2,6 +2,7 @@
 use Rattle.std.proofs.Common.{◌≡◌, ◌≢◌, ℕ, false, if◌then◌else◌, List, [], ◌∷◌, ◌++◌, map, Option, Some, None, is_none, is_some, option_map, option_to_list, find, filter, flat_map, zero, suc, MatchOption, refl, sym, ap, subst, ◌∙◌}
 use Rattle.std.specs.List.{AllByRecursion}
 use Rattle.std.specs.Option.{option_map_or, option_or}
+use Rattle.sql_values.specs.Tables.{table_named}
 use Rattle.sql_values.specs.declared.schemas.Schema.{Schema}
 use Rattle.sql_values.specs.declared.values.Value.{Value}
 use Rattle.sql_values.specs.declared.values.Value.TheVariants.{Null}
@@ -13,7 +14,7 @@ use Rattle.sql_statements.specs.declared.statements.Stmt.{Stmt}
 use Rattle.sql_statements.specs.declared.statements.Stmt.TheVariants as stmt
 use Rattle.sql_meaning.specs.declared.refusals.Refusal.{Refusal}
 use Rattle.sql_meaning.specs.declared.refusals.Refusal.TheVariants.{NoTable, NoColumn, WrongType}
-use Rattle.sql_meaning.specs.Names.{table_named, tables, scope}
+use Rattle.sql_meaning.specs.Names.{tables, scope}
 use Rattle.sql_meaning.specs.Places.{placed_action, placed_tuple}
 use Rattle.sql_meaning.specs.Ranges.{left_ranges, ranges, statement_test, tuple_range}
 use Rattle.sql_meaning.specs.Refusals.{refusal, exists, first_missing, table_refusal, unknown_column, has_right_types}

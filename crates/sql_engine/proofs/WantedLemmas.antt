@@ -3,6 +3,7 @@ use Rattle.std.proofs.Common.{◌≡◌, ℕ, ℤ, Bool, true, false, ◌&&◌, 
 use Rattle.std.specs.List.{AllByRecursion, list_all, list_any}
 use Rattle.std.specs.Option.{option_map_or, option_or}
 use Rattle.std.proofs.lemmas.Bool.{leb-true}
+use Rattle.sql_values.specs.Tables.{table_named}
 use Rattle.sql_values.specs.declared.arithmetic.Overflow.{Overflow}
 use Rattle.sql_values.specs.declared.schemas.Schema.{Schema}
 use Rattle.sql_values.specs.declared.values.Value.{Value}
@@ -18,7 +19,7 @@ use Rattle.sql_meaning.specs.declared.actions.SetPlace.{SetPlace}
 use Rattle.sql_meaning.specs.declared.refusals.Refusal.{Refusal}
 use Rattle.sql_meaning.specs.declared.refusals.Refusal.TheVariants.{NoColumn, TableExists, WrongType}
 use Rattle.sql_meaning.specs.declared.resolved.Resolved.{Resolved}
-use Rattle.sql_meaning.specs.Names.{scope, table_fields, table_named}
+use Rattle.sql_meaning.specs.Names.{scope, table_fields}
 use Rattle.sql_meaning.specs.Places.{both_tests, placed_action, placed_on, placed_order, placed_output, placed_set, placed_test, placed_tuple}
 use Rattle.sql_meaning.specs.Refusals.{counts_match, fits_fields, has_right_types, is_condition, is_right, refusal, set_key, sets_right, table_refusal, unknown_column}
 use Rattle.sql_meaning.specs.Terms.{Term, term}

@@ -5,7 +5,7 @@ use Rattle.sql_values.specs.declared.schemas.Schema.{Schema}
 use Rattle.sql_values.specs.declared.values.Value.{Value}
 use Rattle.row_codec.specs.Keys.{key_bytes}
 use Rattle.row_codec.specs.Records.{FitsSchema, key_cell, record_length, value_bytes}
-use Rattle.sql_meaning.specs.Names.{table_named}
+use Rattle.sql_values.specs.Tables.{table_named}
 use Rattle.sql_database.specs.declared.changes.Change.{Change}
 
 -- a row of the schema with that key, within the limits

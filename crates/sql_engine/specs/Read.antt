@@ -8,7 +8,7 @@ use Rattle.row_codec.specs.Keys.{key_bytes}
 use Rattle.row_codec.specs.Records.{key_cell}
 use Rattle.sql_statements.specs.declared.statements.Stmt.{Stmt}
 use Rattle.sql_statements.specs.declared.statements.Stmt.TheVariants as stmt
-use Rattle.sql_meaning.specs.Names.{table_named}
+use Rattle.sql_values.specs.Tables.{table_named}
 use Rattle.sql_meaning.specs.Ranges.{in_range, ranges}
 use Rattle.sql_exec.specs.declared.rows.RangeRows.{RangeRows}
 use Rattle.sql_database.specs.Database.{Tables}

@@ -5,7 +5,7 @@ use Rattle.std.specs.List.{AllByRecursion}
 use Rattle.sql_values.specs.declared.schemas.Schema.{Schema}
 use Rattle.sql_values.specs.declared.values.Value.{Value}
 use Rattle.row_codec.specs.Records.{AreI64, FitsSchema, IsRecord, value_bytes}
-use Rattle.sql_catalog.specs.Catalog.{IsName, IsNamed, IsTable}
+use Rattle.sql_values.specs.Tables.{IsName, IsNamed, IsTable}
 use Rattle.sql_meaning.specs.Names.{table_named}
 use Rattle.sql_database.specs.declared.changes.Change.{Change}
 use Rattle.sql_database.specs.Database.{Database}

@@ -1,5 +1,5 @@
 ghost use Rattle.std.specs.Prelude.{◌≡◌, ◌++◌, IfOk, OnOk, option_to_list};
-ghost use Rattle.sql_meaning.specs.Names.{table_named};
+ghost use Rattle.sql_values.specs.Tables.{table_named};
 ghost use Rattle.sql_database.specs.Database.{Database};
 ghost use Rattle.sql_engine.specs.Read.{mentioned};
 ghost use Rattle.sql_engine.specs.Read as spec;

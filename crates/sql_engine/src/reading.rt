@@ -1,6 +1,6 @@
 ghost use Rattle.std.specs.Prelude.{◌≡◌, ◌++◌, Some, IfOk, OnOk, option_map};
 ghost use Rattle.std.specs.Option.{option_map_or};
-ghost use Rattle.sql_meaning.specs.Names.{table_named};
+ghost use Rattle.sql_values.specs.Tables.{table_named};
 ghost use Rattle.sql_database.specs.Database.{Database};
 ghost use Rattle.sql_engine.specs.Read.{AreOf, range_rows, ranges_rows, read_rows, table_rows};
 ghost use Rattle.sql_meaning.specs.Ranges as plan;

@@ -1,7 +1,7 @@
 ghost use Rattle.std.specs.Prelude.{◌≡◌, Some, IfOk, IsOk, OnErr, OnOk, filter};
 ghost use Rattle.row_codec.specs.Keys.{key_bytes};
 ghost use Rattle.row_codec.specs.Records.{key_cell};
-ghost use Rattle.sql_meaning.specs.Names.{table_named};
+ghost use Rattle.sql_values.specs.Tables.{table_named};
 ghost use Rattle.sql_meaning.specs.Ranges.{in_range};
 ghost use Rattle.sql_database.specs.Database.{Database};
 ghost use Rattle.sql_database.specs.Applied.{with_row, with_table};

@@ -3,11 +3,12 @@ use Rattle.std.proofs.Common.{◌≡◌, ℕ, Option, Some, None, List, [], find
 use Rattle.std.proofs.Math.Path.{fun_ext}
 use Rattle.std.specs.Prelude.{flat_map}
 use Rattle.std.specs.Option.{option_map_or, option_or}
+use Rattle.sql_values.specs.Tables.{table_named}
 use Rattle.sql_values.specs.declared.schemas.Schema.{Schema}
 use Rattle.sql_statements.specs.declared.statements.Stmt.{Stmt}
 use Rattle.sql_statements.specs.declared.statements.Stmt.TheVariants as stmt
 use Rattle.sql_meaning.specs.declared.refusals.Refusal.TheVariants.{NoTable, NoColumn, TableExists, WrongType}
-use Rattle.sql_meaning.specs.Names.{table_named, scope, tables, table_fields, table_mentions, tuple_mentions, first_unknown}
+use Rattle.sql_meaning.specs.Names.{scope, tables, table_fields, table_mentions, tuple_mentions, first_unknown}
 use Rattle.sql_meaning.specs.Places.{placed_action}
 use Rattle.sql_meaning.specs.Refusals.{refusal, table_refusal, unknown_column, has_right_types, exists, first_missing, set_key, counts_match, is_right}
 use Rattle.sql_database.specs.Answers.{refused}

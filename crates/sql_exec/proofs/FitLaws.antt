@@ -3,6 +3,7 @@ use Rattle.std.proofs.Common.{◌≡◌, ◌≢◌, ℕ, Bool, true, false, Opti
 use Rattle.std.specs.List.{list_any}
 use Rattle.std.specs.Option.{option_or}
 use Rattle.std.proofs.lemmas.Slice.Eq.{bytes_eq-Decides}
+use Rattle.sql_values.specs.Tables.{table_named}
 use Rattle.sql_values.specs.declared.arithmetic.Overflow.{Overflow}
 use Rattle.sql_values.specs.declared.schemas.Schema.{Schema}
 use Rattle.sql_values.specs.declared.values.Value.{Value}
@@ -24,7 +25,7 @@ use Rattle.sql_database.specs.declared.replies.SqlReply.TheVariants as reply
 use Rattle.sql_database.specs.Answers.{Answer, refused, wants}
 use Rattle.sql_database.specs.Applied.{changed, with_catalog, with_row}
 use Rattle.sql_database.specs.Catalog.{creation, is_of_catalog, schema_row}
-use Rattle.sql_database.specs.Database.{Database, table_named}
+use Rattle.sql_database.specs.Database.{Database}
 use Rattle.sql_database.specs.Fitting.{AreKnown, Fits, FitsAll, IsProper, MakesTable, NamesNoCatalog}
 use Rattle.sql_database.specs.Rules.{WantsFit}
 use Rattle.sql_database.specs.Statements.{is_write}

@@ -2,6 +2,7 @@
 use Rattle.std.specs.Prelude.{◌≡◌, ℕ, ℤ, Bool, false, is_some, if◌then◌else◌, List, [], ◌∷◌, length, Option, Some, None, Result, Ok, Err, option_map, MatchOption}
 use Rattle.std.specs.List.{list_any}
 use Rattle.std.specs.Option.{option_map_or}
+use Rattle.sql_values.specs.Tables.{table_named}
 use Rattle.sql_values.specs.declared.arithmetic.Overflow.{Overflow}
 use Rattle.sql_values.specs.declared.schemas.Schema.{Schema}
 use Rattle.sql_values.specs.declared.values.Value.{Value}
@@ -18,7 +19,7 @@ use Rattle.sql_meaning.specs.declared.actions.Action.{Action}
 use Rattle.sql_meaning.specs.declared.actions.Action.TheVariants as action
 use Rattle.sql_meaning.specs.declared.refusals.Refusal.{Refusal}
 use Rattle.sql_meaning.specs.declared.refusals.Refusal.TheVariants as refusals
-use Rattle.sql_meaning.specs.Names.{table_named, scope}
+use Rattle.sql_meaning.specs.Names.{scope}
 use Rattle.sql_meaning.specs.Places.{placed_action}
 use Rattle.sql_meaning.specs.Refusals.{refusal}
 use Rattle.sql_meaning.specs.Terms.{term}

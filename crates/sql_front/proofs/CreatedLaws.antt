@@ -5,7 +5,7 @@ use Rattle.std.proofs.lemmas.Slice.Eq.{bytes_eq-Decides}
 use Rattle.std.specs.List.{AllByRecursion, list_any, position_or_len}
 use Rattle.std.specs.Str.{bytes_eq}
 use Rattle.sql_values.specs.declared.schemas.Column.{Column}
-use Rattle.sql_catalog.specs.Catalog.{Differ, IsTable}
+use Rattle.sql_values.specs.Tables.{Differ, IsTable}
 use Rattle.sql_words.specs.declared.signs.Sign.TheVariants as s
 use Rattle.sql_front.specs.declared.definitions.Definition.{Definition}
 use Rattle.sql_statements.specs.declared.statements.Stmt.{Stmt}

@@ -1,7 +1,7 @@
 -- The tables that statements make.
 use Rattle.std.specs.Prelude.{◌≢◌, ℕ, List}
 use Rattle.sql_values.specs.declared.schemas.Schema.{Schema}
-use Rattle.sql_catalog.specs.Catalog.{IsTable}
+use Rattle.sql_values.specs.Tables.{IsTable}
 use Rattle.sql_words.specs.declared.reserved.Word.{Word}
 use Rattle.sql_words.specs.Reserved.{lowered, spelling}
 use Rattle.sql_statements.specs.declared.statements.Stmt.{Stmt}

@@ -3,6 +3,7 @@ use Rattle.std.specs.Prelude.{ℕ, Bool, true, ◌&&◌, ◌==◌, if◌then◌e
 use Rattle.std.specs.Option.{option_map_or}
 use Rattle.sql_values.specs.declared.schemas.Column.{Column}
 use Rattle.sql_values.specs.declared.schemas.Schema.{Schema}
+use Rattle.sql_values.specs.Tables.{table_named}
 use Rattle.sql_statements.specs.declared.expressions.Expr.{Expr}
 use Rattle.sql_statements.specs.declared.expressions.Expr.TheOpen.{Expr-F}
 use Rattle.sql_statements.specs.declared.expressions.Expr.TheFolds.{fold-Expr}
@@ -17,10 +18,6 @@ use Rattle.sql_statements.specs.declared.statements.Stmt.{Stmt}
 use Rattle.sql_statements.specs.declared.statements.Stmt.TheVariants as stmt
 use Rattle.sql_meaning.specs.declared.fields.Field.{Field}
 use Rattle.sql_meaning.specs.declared.mentions.Mention.{Mention}
-
--- the schema of the table with that name
-abbrev pub table_named : List Schema → List ℕ → Option Schema
-table_named schemas name = find (λ s. bytes_eq s.table name) schemas
 
 abbrev pub field_of : List ℕ → Column → Field
 field_of table c = record { table = table; name = c.name; sort = c.sort }

@@ -4,6 +4,7 @@ use Rattle.std.specs.List.{list_any}
 use Rattle.std.specs.Option.{option_map_or}
 use Rattle.std.specs.Ordering.{is_lt, is_le}
 use Rattle.rm_base.specs.declared.key_range.KeyRange.{KeyRange}
+use Rattle.sql_values.specs.Tables.{table_named}
 use Rattle.sql_values.specs.declared.arithmetic.Overflow.{Overflow}
 use Rattle.sql_values.specs.declared.schemas.Schema.{Schema}
 use Rattle.sql_values.specs.declared.values.Value.{Value}
@@ -19,7 +20,7 @@ use Rattle.sql_meaning.specs.declared.resolved.Resolved.{Resolved}
 use Rattle.sql_meaning.specs.declared.actions.Action.{Action}
 use Rattle.sql_meaning.specs.declared.actions.Action.TheVariants as action
 use Rattle.sql_meaning.specs.Evaluation.{value_in, cell_of}
-use Rattle.sql_meaning.specs.Names.{table_named, scope}
+use Rattle.sql_meaning.specs.Names.{scope}
 use Rattle.sql_meaning.specs.Places.{placed_action}
 use Rattle.sql_meaning.specs.Refusals.{refusal}
 use Rattle.sql_meaning.specs.Terms.{Term, lit, cell, neg, opposite_of, is_null, two, term}

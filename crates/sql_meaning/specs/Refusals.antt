@@ -2,6 +2,7 @@
 use Rattle.std.specs.Prelude.{◌≡◌, ℕ, Bool, true, false, not, ◌&&◌, ◌==◌, if◌then◌else◌, List, [], ◌∷◌, length, zip, slice_get, Option, Some, None, is_some, is_none, option_map, find}
 use Rattle.std.specs.List.{list_all}
 use Rattle.std.specs.Option.{option_map_or, option_or}
+use Rattle.sql_values.specs.Tables.{table_named}
 use Rattle.sql_values.specs.declared.schemas.Schema.{Schema}
 use Rattle.sql_statements.specs.declared.statements.Stmt.{Stmt}
 use Rattle.sql_statements.specs.declared.statements.Stmt.TheVariants as stmt
@@ -18,7 +19,7 @@ use Rattle.sql_meaning.specs.declared.actions.Action.TheVariants.{Create, Insert
 use Rattle.sql_meaning.specs.declared.refusals.Refusal.{Refusal}
 use Rattle.sql_meaning.specs.declared.refusals.Refusal.TheVariants.{TableExists, NoTable, NoColumn, WrongType}
 use Rattle.sql_meaning.specs.Kinds.{kind, is_number, is_truth, is_value, takes}
-use Rattle.sql_meaning.specs.Names.{table_named, tables, scope, table_mentions, tuple_mentions, first_unknown}
+use Rattle.sql_meaning.specs.Names.{tables, scope, table_mentions, tuple_mentions, first_unknown}
 use Rattle.sql_meaning.specs.Places.{placed_action}
 use Rattle.sql_meaning.specs.Terms.{term}
 

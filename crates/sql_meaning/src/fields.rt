@@ -1,5 +1,6 @@
 ghost use Rattle.std.specs.Prelude.{◌≡◌, ◌++◌, OnOk, IfOk, count_by, position};
 ghost use Rattle.std.specs.Option.{option_copied};
+ghost use Rattle.sql_values.specs.Tables as tables;
 ghost use Rattle.sql_meaning.specs.Names.{place, table_fields};
 ghost use Rattle.sql_meaning.specs.Names as spec;
 
@@ -20,7 +21,7 @@ pub type Fields = Items<Field>;
 
 /// The schema of the table with that name.
 pub fn table_named<'a>(schemas: &'a Schemas, name: &Name) -> Option<&'a Schema>
-    ensures { option_copied result ≡ spec.table_named schemas.now name.now }
+    ensures { option_copied result ≡ tables.table_named schemas.now name.now }
 {
     schemas
         .as_slice()

@@ -1,6 +1,7 @@
 ghost use Rattle.std.specs.Prelude.{◌≡◌, ◌++◌, [], ◌∷◌, IfOk, OnOk, ◌&&◌};
 ghost use Rattle.std.specs.Option.{option_map_or};
 ghost use Rattle.std.specs.Result.{result_err};
+ghost use Rattle.sql_values.specs.Tables as tables;
 ghost use Rattle.sql_meaning.specs.Names.{scope, table_fields, tables};
 ghost use Rattle.sql_meaning.specs.Names as names;
 ghost use Rattle.sql_meaning.specs.Places.{placed_action};
@@ -96,7 +97,7 @@ fn append_table(
     table: &Name,
     schemas: &Schemas,
 ) -> Result<(), WantOfMemory>
-    ensures { OnOk result (fields.new ≡ fields.old ++ option_map_or table_fields (names.table_named schemas.now table.now) []) }
+    ensures { OnOk result (fields.new ≡ fields.old ++ option_map_or table_fields (tables.table_named schemas.now table.now) []) }
 {
     match table_named(schemas, table) {
         Some(schema) => append_fields(alloc, fields, schema),

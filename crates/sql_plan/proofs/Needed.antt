@@ -3,6 +3,7 @@ use Rattle.std.proofs.Common.{◌≡◌, ◌≢◌, ◌<◌, ◌+◌, ℕ, Bool,
 use Rattle.std.specs.Option.{option_map_or, option_or}
 use Rattle.std.proofs.lemmas.Bool.{ltb-true}
 use Rattle.rm_base.specs.declared.key_range.KeyRange.{KeyRange}
+use Rattle.sql_values.specs.Tables.{table_named}
 use Rattle.sql_values.specs.declared.logic.Truth.TheVariants.{No}
 use Rattle.sql_values.specs.declared.schemas.Schema.{Schema}
 use Rattle.sql_values.specs.declared.values.Value.{Value}
@@ -19,7 +20,7 @@ use Rattle.sql_meaning.specs.declared.refusals.Refusal.TheVariants.{NoColumn, Wr
 use Rattle.sql_meaning.specs.declared.resolved.Resolved.{Resolved}
 use Rattle.sql_meaning.specs.Evaluation.{cell_of, test_in}
 use Rattle.sql_meaning.specs.Kinds.{kind, is_truth}
-use Rattle.sql_meaning.specs.Names.{table_named, table_fields, tables, scope}
+use Rattle.sql_meaning.specs.Names.{table_fields, tables, scope}
 use Rattle.sql_meaning.specs.Places.{placed_action, placed_test, placed_on, both_tests}
 use Rattle.sql_meaning.specs.Ranges.{KeyPlaces, bounds_of, value_bytes, cell_bytes, range_at, key_place, width_of, key_places, statement_test, left_ranges, right_ranges, ranges, in_ranges}
 use Rattle.sql_meaning.specs.Refusals.{refusal, table_refusal, unknown_column, has_right_types, suits, is_condition, set_key, is_right}

@@ -9,7 +9,7 @@ use Rattle.row_codec.specs.Records.{FitsSchema, AreI64, key_cell}
 use Rattle.sql_statements.specs.declared.statements.Stmt.{Stmt}
 use Rattle.sql_statements.specs.declared.statements.Stmt.TheVariants as stmt
 use Rattle.sql_meaning.specs.Evaluation.{test_in}
-use Rattle.sql_meaning.specs.Names.{table_named}
+use Rattle.sql_values.specs.Tables.{table_named}
 use Rattle.sql_meaning.specs.Ranges.{statement_test, ranges, in_ranges}
 
 -- the one table whose rows a statement reads or changes: UPDATE, DELETE, and SELECT without JOIN

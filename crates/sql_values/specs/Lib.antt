@@ -1,3 +1,4 @@
 pub mod Arithmetic
 pub mod Order
 pub mod Truths
+pub mod Tables

@@ -1,7 +1,7 @@
 use Rattle.std.proofs.Common.{◌≡◌, List, ℕ, Some, sym, ap, ◌∙◌}
 use Rattle.page_store.specs.Stored.{pages_of}
 use Rattle.sql_values.specs.declared.schemas.Schema.{Schema}
-use Rattle.sql_meaning.specs.Names.{table_named}
+use Rattle.sql_values.specs.Tables.{table_named}
 use Rattle.paged_tables.proofs.EntryLaws.{found_name}
 use Rattle.paged_tables.proofs.HoldLaws.{entry_of}
 use Rattle.paged_tables.proofs.tests.count.Goals as goal

@@ -1,6 +1,7 @@
 use Rattle.std.proofs.Common.{◌≡◌, ◌≤◌, ◌++◌, length, drop}
 use Rattle.std.specs.List.{AllByRecursion}
-use Rattle.sql_catalog.specs.Catalog.{columns_bytes, IsNamed}
+use Rattle.sql_values.specs.Tables.{IsNamed}
+use Rattle.sql_catalog.specs.Catalog.{columns_bytes}
 use Rattle.sql_catalog.proofs.reading.columns_in.Given as goal
 
 -- the bytes up to `at` are those of the columns so far

@@ -1,5 +1,6 @@
 use Rattle.std.proofs.Common.{rules, refl, ◌≡◌, ◌≤◌, length, drop, slice_index, sym, ◌∙◌, subst, take, ◌-◌}
-use Rattle.sql_catalog.specs.Catalog.{AreColumnsOrNone, IsTable}
+use Rattle.sql_values.specs.Tables.{IsTable}
+use Rattle.sql_catalog.specs.Catalog.{AreColumnsOrNone}
 use Rattle.sql_catalog.proofs.Spelled.{PartsOf, parts_of, too_short, made_of, rest_from, all_columns}
 use Rattle.sql_catalog.proofs.reading.schema_in.Goals as goal
 
