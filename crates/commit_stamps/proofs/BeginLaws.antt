@@ -5,6 +5,7 @@ use Rattle.std.proofs.lemmas.Bool.{eq-eqb}
 use Rattle.std.proofs.lemmas.List.{drop-replicate, replicate-append-replicate}
 use Rattle.rm_base.proofs.FieldLaws.{number-field}
 use Rattle.rm_base.specs.Fields.{field, number}
+use Rattle.page_image.specs.Meta.{IsMeta, IsSlots, counters_of}
 use Rattle.page_image.specs.declared.kind.Kind.TheVariants.{Unmade, Stamps}
 use Rattle.page_image.specs.Image.{Image, CanMake, unmade, made, patched, zeros}
 use Rattle.page_image.specs.Rules.{IsImage}
@@ -12,7 +13,7 @@ use Rattle.redo_record.specs.declared.redo.Record.{Record}
 use Rattle.redo_record.specs.declared.redo.Record.TheVariants.{Make}
 use Rattle.redo_record.specs.Effect.{after_records, RecordsApply}
 use Rattle.commit_stamps.specs.declared.slots.Slot.{Slot}
-use Rattle.commit_stamps.specs.Fields.{IsMeta, IsSlots, counters_of, no_undo, slot_bytes}
+use Rattle.commit_stamps.specs.Fields.{no_undo, slot_bytes}
 use Rattle.commit_stamps.specs.Stamping.{stamp_page, stamp_place}
 use Rattle.commit_stamps.specs.Plans.{numbers, fills, begin_records}
 use Rattle.commit_stamps.specs.Effects.{RunsOn, SetsSlot, SetsCounters, HasNoStamps, Begins}

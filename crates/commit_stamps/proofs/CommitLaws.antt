@@ -3,12 +3,13 @@ use Rattle.std.proofs.Common.{◌≡◌, ◌≢◌, ◌≤◌, ◌<◌, ◌+◌,
 use Rattle.rm_base.specs.Fields.{field}
 use Rattle.rm_base.proofs.FieldLaws.{length-field}
 use Rattle.rm_base.specs.declared.places.UndoPtr.{UndoPtr}
+use Rattle.page_image.specs.Meta.{IsMeta, IsSlots, counters_of}
 use Rattle.page_image.specs.Image.{Image, has_body, CanPatch, patched}
 use Rattle.page_image.specs.Rules.{IsImage}
 use Rattle.redo_record.specs.declared.redo.Record.{Record}
 use Rattle.redo_record.specs.Spelling.{FitsPage}
 use Rattle.commit_stamps.specs.declared.slots.Slot.{Slot}
-use Rattle.commit_stamps.specs.Fields.{IsMeta, IsSlots, counters_of, free_slot, slot_of, pointer_bytes, slot_bytes}
+use Rattle.commit_stamps.specs.Fields.{free_slot, slot_of, pointer_bytes, slot_bytes}
 use Rattle.commit_stamps.specs.Stamping.{IsStampPage, stamp_place}
 use Rattle.commit_stamps.specs.Plans.{fills, points, publishes, stamps_with, commit_records, free_records}
 use Rattle.commit_stamps.specs.Effects.{SetsSlot, SetsStamp, SetsCounters, Commits, Frees, Points}

@@ -6,9 +6,10 @@ use Rattle.std.proofs.lemmas.List.{drop-drop, drop_at}
 use Rattle.rm_base.specs.Fields.{field, number}
 use Rattle.rm_base.proofs.FieldLaws.{length-field, number-field}
 use Rattle.rm_base.specs.declared.places.UndoPtr.{UndoPtr}
+use Rattle.page_image.specs.Meta.{Counters, IsMeta, IsSlots, counters_of}
 use Rattle.page_image.specs.Image.{Image, patched}
 use Rattle.commit_stamps.specs.declared.slots.Slot.{Slot}
-use Rattle.commit_stamps.specs.Fields.{IsMeta, IsSlots, Counters, counters_of, slot_of, pointer_bytes, slot_bytes}
+use Rattle.commit_stamps.specs.Fields.{slot_of, pointer_bytes, slot_bytes}
 use Rattle.commit_stamps.specs.Effects.{SetsSlot, SetsCounters}
 use Rattle.commit_stamps.proofs.PatchLaws.{overwritten, number_within, number_below, number_above}
 

@@ -7,8 +7,9 @@ use Rattle.redo_record.specs.declared.redo.Record.{Record}
 use Rattle.redo_record.specs.Effect.{after_records, RecordsApply}
 use Rattle.redo_record.specs.Spelling.{IsAdmitted}
 use Rattle.rm_base.specs.declared.places.UndoPtr.{UndoPtr}
+use Rattle.page_image.specs.Meta.{Counters, IsMeta, IsSlots, counters_of}
 use Rattle.commit_stamps.specs.declared.slots.Slot.{Slot}
-use Rattle.commit_stamps.specs.Fields.{IsMeta, IsSlots, Counters, counters_of, no_undo, free_slot, slot_of}
+use Rattle.commit_stamps.specs.Fields.{no_undo, free_slot, slot_of}
 use Rattle.commit_stamps.specs.Stamping.{IsStampPage, stamp_page, stamp_place, stamp_in}
 
 -- the records can be those of one group; they apply in order to each of these pages, and every other page stays as it is

@@ -2,6 +2,7 @@
 use Rattle.std.specs.Prelude.{◌+◌, ◌*◌, ℕ, List, [], ◌∷◌, ◌++◌, nat_eq, if◌then◌else◌}
 use Rattle.rm_base.specs.Fields.{field}
 use Rattle.rm_base.specs.declared.places.UndoPtr.{UndoPtr}
+use Rattle.page_image.specs.Meta.{counters_of}
 use Rattle.page_image.specs.declared.kind.Kind.TheVariants.{Stamps}
 use Rattle.page_image.specs.Image.{Image}
 use Rattle.redo_record.specs.declared.redo.Record.{Record}
@@ -9,7 +10,7 @@ use Rattle.redo_record.specs.declared.redo.Record.TheVariants.{Make, Patch}
 use Rattle.redo_record.specs.declared.plans.Plan.{Plan}
 use Rattle.redo_record.specs.declared.plans.PlanKind.TheVariants.{Begin, Commit, Free}
 use Rattle.commit_stamps.specs.declared.slots.Slot.{Slot}
-use Rattle.commit_stamps.specs.Fields.{counters_of, no_undo, free_slot, slot_of, pointer_bytes, slot_bytes}
+use Rattle.commit_stamps.specs.Fields.{no_undo, free_slot, slot_of, pointer_bytes, slot_bytes}
 use Rattle.commit_stamps.specs.Stamping.{stamp_page, stamp_place}
 
 -- the meta page gets another next number, or another last stamp

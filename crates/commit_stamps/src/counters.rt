@@ -1,6 +1,6 @@
 //! The numbers of the meta page.
 ghost use Rattle.std.specs.Prelude.{◌≡◌};
-ghost use Rattle.commit_stamps.specs.Fields.{IsMeta, counters_of};
+ghost use Rattle.page_image.specs.Meta.{IsMeta, counters_of};
 
 use crate::body::{u32_in, u64_in};
 use page_image::Page;

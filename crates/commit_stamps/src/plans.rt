@@ -1,11 +1,12 @@
 //! The plans that begin a transaction and end it.
 ghost use Rattle.std.specs.Prelude.{◌≡◌, ◌≢◌, ◌≤◌, ◌<◌, ◌+◌, ◌*◌, ◌^◌, ◌↔◌, length, ◌++◌, ◌∷◌, [], IfOk, IsErr, OnOk};
-ghost use Rattle.commit_stamps.specs.Fields.{IsMeta, IsSlots, counters_of, free_slot};
+ghost use Rattle.commit_stamps.specs.Fields.{free_slot};
 ghost use Rattle.commit_stamps.specs.Fields as fields;
 ghost use Rattle.commit_stamps.specs.Stamping.{IsStampPage};
 ghost use Rattle.commit_stamps.specs.Stamping as stamping;
 ghost use Rattle.commit_stamps.specs.Plans as spec;
 ghost use Rattle.rm_base.specs.Fields.{field};
+ghost use Rattle.page_image.specs.Meta.{IsMeta, IsSlots, counters_of};
 ghost use Rattle.commit_stamps.specs.Effects.{Begins, Commits, Frees};
 
 use crate::body::keeps_rules;

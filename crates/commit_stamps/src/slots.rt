@@ -1,7 +1,7 @@
 //! The slots of the sessions: each holds its session's transaction and that one's last undo item.
 ghost use Rattle.std.specs.Prelude.{◌≡◌, ◌+◌, ◌*◌, ◌++◌, ◌∷◌, [], OnOk, OnErr};
 ghost use Rattle.commit_stamps.specs.Fields as spec;
-ghost use Rattle.commit_stamps.specs.Fields.{IsSlots};
+ghost use Rattle.page_image.specs.Meta.{IsSlots};
 ghost use Rattle.commit_stamps.specs.Plans.{points};
 ghost use Rattle.commit_stamps.specs.Effects.{Points};
 

@@ -12,3 +12,4 @@ pub mod ReadLaws
 pub mod RuleLaws
 pub mod KeepLaws
 pub mod TheLaws
+pub mod CountLaws

@@ -5,3 +5,4 @@ pub mod Moves
 pub mod Lending
 pub mod Faults
 pub mod Laws
+pub mod Meta

@@ -8,12 +8,14 @@ mod header;
 mod kind;
 mod laws;
 mod layout;
+mod meta;
 mod moving;
 mod page;
 
 pub use errors::BadPage;
 pub use kind::Kind;
 pub use laws::page_laws;
+pub use meta::{PAGE_COUNT_AT, page_count};
 pub use page::Page;
 
 /// The largest number of items on a page: each has a byte and a slot of two.

@@ -8,9 +8,8 @@ ghost use Rattle.page_store.specs.Opening.{opened};
 
 use crate::frames::Frames;
 use crate::journal::Journal;
-use crate::opening::opening_records;
 use page_image::Page;
-use redo_record::{Group, Records};
+use redo_record::{Group, Records, opening_records};
 use rm_base::{PageId, WantOfMemory};
 use std::alloc::Global;
 use std::marker::Model;

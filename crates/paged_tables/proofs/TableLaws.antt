@@ -11,7 +11,7 @@ use Rattle.page_store.specs.Stored.{Stored, pages_of, all_kept}
 use Rattle.page_store.proofs.StoredLaws.{after_keep}
 use Rattle.bplus_tree.specs.Walk as walk
 use Rattle.tree_change.specs.Effects.{with_item}
-use Rattle.tree_change.specs.Splits.{count_of}
+use Rattle.page_image.specs.Meta.{page_count}
 use Rattle.tree_change.specs.Room.{size_of, room_for}
 use Rattle.tree_change.specs.Places.{leaf_on}
 use Rattle.tree_store.specs.Forest.{Forest, IsFull, with_tree, IsWayIn, HasRoom}
@@ -117,11 +117,11 @@ entry_room pages catalog root other s a b path a_is b_is room =
     room
 
 pub create_made : (pages mid new : ℕ → Image) (d : Database) (h : Holds pages d) (s : Schema) (root catalog : ℕ) (item : LeafItem) → CanCreate d.schemas s
-    → Forest mid h.roots h.items → count_of (mid 0) ≤ 32767 → root ≡ count_of (mid 0) → catalog ≡ CATALOG_ROOT_PAGE_ID → item ≡ live_item s.table (catalog_value s root)
-    → Forest new (h.roots ++ count_of (mid 0) ∷ []) (with_tree (with_tree h.items catalog (with_item item.key (leaf_bytes item) (h.items catalog))) (count_of (mid 0)) [])
+    → Forest mid h.roots h.items → page_count (mid 0) ≤ 32767 → root ≡ page_count (mid 0) → catalog ≡ CATALOG_ROOT_PAGE_ID → item ≡ live_item s.table (catalog_value s root)
+    → Forest new (h.roots ++ page_count (mid 0) ∷ []) (with_tree (with_tree h.items catalog (with_item item.key (leaf_bytes item) (h.items catalog))) (page_count (mid 0)) [])
     → Holds new (with_table d s)
 create_made pages mid new d h s root catalog item can stands bound root_is catalog_is item_is forest =
-    let count : ℕ = count_of (mid 0) in
+    let count : ℕ = page_count (mid 0) in
     let e : Entry = record { schema = s; root = count } in
     let fresh : Contains h.roots count → ⊥ = not_a_root mid h.roots h.items stands in
     let here : item ≡ live_item s.table (catalog_value s count) = item_is ∙ ap (λ (r : ℕ). live_item s.table (catalog_value s r)) root_is in

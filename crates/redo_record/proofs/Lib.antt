@@ -10,3 +10,4 @@ pub mod Decoded
 pub mod Fold
 pub mod Merging
 pub mod Logs
+pub mod OpeningLaws

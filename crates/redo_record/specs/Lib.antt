@@ -6,3 +6,4 @@ pub mod Refusal
 pub mod Effect
 pub mod Reads
 pub mod Decodes
+pub mod Opening

@@ -6,6 +6,7 @@ mod applying;
 mod decoding;
 mod encoding;
 mod laws;
+mod opening;
 mod plans;
 mod reader;
 mod record_reader;
@@ -15,6 +16,7 @@ pub use applying::{BadApply, apply};
 pub use decoding::{BadRecord, decode};
 pub use encoding::encode;
 pub use laws::{fold_laws, grammar_laws};
+pub use opening::opening_records;
 pub use plans::{Path, Plan, PlanKind, TreeNo};
 pub use redo::{Group, Groups, Record, Records};
 

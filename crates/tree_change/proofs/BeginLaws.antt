@@ -6,6 +6,7 @@ use Rattle.std.specs.List.{AllByRecursion, IsDistinct}
 use Rattle.std.proofs.lemmas.List.{length-append}
 use Rattle.std.proofs.lemmas.Bool.Decides.{eqb_tells}
 use Rattle.rm_base.specs.Fields.{field}
+use Rattle.page_image.specs.Meta.{IsMeta, page_count}
 use Rattle.page_image.specs.declared.kind.Kind.TheVariants.{Unmade, Meta, Leaf}
 use Rattle.page_image.specs.Image.{Image, unmade, has_body, made, patched}
 use Rattle.page_image.specs.Rules.{IsImage}
@@ -16,9 +17,9 @@ use Rattle.redo_record.specs.Effect.{after_records, RecordsApply}
 use Rattle.redo_record.specs.Spelling.{IsAdmitted}
 use Rattle.redo_record.proofs.Fold.{after_records-append, after_records-page, RecordsApply-append}
 use Rattle.bplus_tree.specs.Tree.{Tree, is_leaf, Linked}
-use Rattle.tree_change.specs.declared.counting.TheConstants.{COUNT_AT}
+use Rattle.page_image.specs.declared.meta.TheConstants.{PAGE_COUNT_AT}
 use Rattle.tree_change.specs.Way.{IsWayTo}
-use Rattle.tree_change.specs.Splits.{IsMeta, count_of, counts}
+use Rattle.tree_change.specs.Splits.{counts}
 use Rattle.page_view.specs.declared.leaf.LeafItem.{LeafItem}
 use Rattle.page_view.specs.Keys.{keys_of}
 use Rattle.tree_change.specs.Pages.{HasRows}
@@ -36,27 +37,27 @@ use Rattle.tree_change.proofs.SplitEffects.{can_count}
 use Rattle.tree_change.proofs.SplitTree.{unmade_apart, meta_apart, kept_leaf}
 
 abbrev last_two : Image → List Record
-last_two meta = Make (count_of meta) Leaf 0 ∷ counts meta (count_of meta + 1) ∷ []
+last_two meta = Make (page_count meta) Leaf 0 ∷ counts meta (page_count meta + 1) ∷ []
 
 -- the pages of the tree, and the two that are none of them
 record Setting (pages : ℕ → Image) (nodes : List ℕ) (meta : Image) : Type 0 where
   each : AllByRecursion (IsNode pages) nodes
   meta_there : pages meta.page ≡ meta
-  new_there : pages (count_of meta) ≡ unmade (count_of meta)
-  new_apart : (q : ℕ) → IsNode pages q → count_of meta ≢ q
+  new_there : pages (page_count meta) ≡ unmade (page_count meta)
+  new_apart : (q : ℕ) → IsNode pages q → page_count meta ≢ q
   meta_apart : (q : ℕ) → IsNode pages q → meta.page ≢ q
-  apart : count_of meta ≢ meta.page
+  apart : page_count meta ≢ meta.page
 
 setting : (key : List ℕ) (path : List Image) (meta : Image) (plan : Plan) → IsMeta meta → (w : IsWayTo key path) → IsFresh w.pages meta (with_root plan meta) → Setting w.pages w.tree.nodes meta
 setting key path meta plan is w fresh =
-    let u : w.pages (count_of meta) ≡ unmade (count_of meta) = fresh.unmade.0 in
-    let no_kind : (w.pages (count_of meta)).kind ≡ Unmade = ap (λ (o : Image). o.kind) u in
+    let u : w.pages (page_count meta) ≡ unmade (page_count meta) = fresh.unmade.0 in
+    let no_kind : (w.pages (page_count meta)).kind ≡ Unmade = ap (λ (o : Image). o.kind) u in
     let meta_kind : (w.pages meta.page).kind ≡ Meta = ap (λ (o : Image). o.kind) fresh.meta_is ∙ is.kind in
     record {
       each = stands_nodes w.pages w.tree.level w.root None None w.items w.tree.nodes w.tree.stands;
       meta_there = fresh.meta_is;
       new_there = u;
-      new_apart = λ q n. unmade_apart w.pages (count_of meta) q no_kind n;
+      new_apart = λ q n. unmade_apart w.pages (page_count meta) q no_kind n;
       meta_apart = λ q n. meta_apart w.pages meta.page q meta_kind n;
       apart = λ e. (let h : Unmade ≡ Meta = sym no_kind ∙ ap (λ (p : ℕ). (w.pages p).kind) e ∙ meta_kind in cc);
     }
@@ -113,9 +114,9 @@ empty_tree pages page lsn e =
     record { tree = leaf; nodes_are = refl; level_is = refl }
 
 pub begins_from : (key : List ℕ) (path : List Image) (meta : Image) (plan : Plan) (change : List (List ℕ) → List (List ℕ)) → Carries key path plan change → length plan.records ≤ 2
-    → IsMeta meta → IsImage meta → count_of meta ≤ 32767 → Begins key path meta (with_root plan meta) change
+    → IsMeta meta → IsImage meta → page_count meta ≤ 32767 → Begins key path meta (with_root plan meta) change
 begins_from key path meta plan change c few is image bound =
-    let new : ℕ = count_of meta in
+    let new : ℕ = page_count meta in
     let rs : List Record = plan.records in
     let tail : List Record = last_two meta in
     record {
@@ -150,7 +151,7 @@ begins_from key path meta plan change c few is image bound =
           empty_tree (pages_after lsn (rs ++ tail) w.pages) new lsn e;
       counts = λ w fresh lsn.
           let s = setting key path meta plan is w fresh in
-          let e : pages_after lsn (rs ++ tail) w.pages meta.page ≡ patched meta COUNT_AT (field 4 (new + 1)) lsn =
+          let e : pages_after lsn (rs ++ tail) w.pages meta.page ≡ patched meta PAGE_COUNT_AT (field 4 (new + 1)) lsn =
           after_records-append lsn rs tail (w.pages meta.page)
           ∙ ap (after_records lsn tail) (stays key path plan change c w lsn meta.page s.meta_apart meta s.meta_there refl)
           ∙ other_after lsn (Make new Leaf 0) (counts meta (new + 1) ∷ []) meta s.apart
@@ -164,14 +165,14 @@ begins_from key path meta plan change c few is image bound =
         record {
           some = omega (arith, long);
           most = omega (arith, long, few);
-          each = all_join IsAdmitted plan.records (last_two meta) c.group.each (((λ e. cc), refl), (fits_count (count_of meta + 1), tt));
+          each = all_join IsAdmitted plan.records (last_two meta) c.group.each (((λ e. cc), refl), (fits_count (page_count meta + 1), tt));
         }
 
     applies : (w : IsWayTo key path) → IsFresh w.pages meta (with_root plan meta) → (lsn page : ℕ) → (w.pages page).page ≡ page
         → RecordsApply lsn (plan.records ++ last_two meta) (w.pages page)
     applies w fresh lsn page number =
         let s = setting key path meta plan is w fresh in
-        let new : ℕ = count_of meta in
+        let new : ℕ = page_count meta in
         let rs : List Record = plan.records in
         let tail : List Record = last_two meta in
         let im : Image = after_records lsn rs (w.pages page) in

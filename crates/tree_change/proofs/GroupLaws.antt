@@ -7,6 +7,7 @@ use Rattle.std.proofs.lemmas.List.{length-append, length-take, length-take-le, l
 use Rattle.std.proofs.lemmas.List.Elements.{All-from_recursion, All-get_or}
 use Rattle.rm_base.specs.Fields.{field, number}
 use Rattle.rm_base.proofs.FieldLaws.{length-field, number-field}
+use Rattle.page_image.specs.Meta.{IsMeta, page_count}
 use Rattle.page_image.specs.declared.kind.Kind.TheVariants.{Unmade, Leaf, Inner}
 use Rattle.page_image.specs.Image.{Image, used, is_inner, LevelFits, patched}
 use Rattle.page_view.specs.Leaf.{HoldsLeaf}
@@ -14,10 +15,10 @@ use Rattle.page_view.specs.Keys.{key_in}
 use Rattle.redo_record.specs.declared.redo.Record.{Record}
 use Rattle.redo_record.specs.declared.redo.Record.TheVariants.{Make, InsertSlot, Cut, Link}
 use Rattle.redo_record.specs.Spelling.{IsAdmitted}
-use Rattle.tree_change.specs.declared.counting.TheConstants.{COUNT_AT}
+use Rattle.page_image.specs.declared.meta.TheConstants.{PAGE_COUNT_AT}
 use Rattle.tree_change.specs.Pages.{HoldsChild, IsTreePage}
 use Rattle.tree_change.specs.Places.{not_greater}
-use Rattle.tree_change.specs.Splits.{IsMeta, count_of, counts, inserts, right_half, separator, entry_of, linked_on, linked_to, made_right, split_records, made_halves, made_root, root_split_records}
+use Rattle.tree_change.specs.Splits.{counts, inserts, right_half, separator, entry_of, linked_on, linked_to, made_right, split_records, made_halves, made_root, root_split_records}
 use Rattle.tree_change.specs.Effects.{MakeGroup, Counts}
 use Rattle.tree_change.proofs.ListLaws.{all_join}
 use Rattle.tree_change.proofs.MoveLaws.{used-cons}
@@ -115,10 +116,10 @@ made_of page (inl rows) e = let h : Leaf ≡ Unmade = sym rows.kind ∙ e in cc
 made_of page (inr children) e = let h : Inner ≡ Unmade = sym children.kind ∙ e in cc
 
 pub split_group : (key : List ℕ) (parent page meta : Image) (at : ℕ) → IsTreePage page → at < length page.items → LevelFits page.kind page.level
-    → AllByRecursion (λ x. 1 ≤ length x) (right_half page at) → used (right_half page at) ≤ PAGE_BYTES - PAGE_HEADER_BYTES → page.next ≤ 32767 → count_of meta ≤ 32767
+    → AllByRecursion (λ x. 1 ≤ length x) (right_half page at) → used (right_half page at) ≤ PAGE_BYTES - PAGE_HEADER_BYTES → page.next ≤ 32767 → page_count meta ≤ 32767
     → MakeGroup (split_records key parent page at meta)
 split_group key parent page meta at tree within level some room next bound =
-    let new : ℕ = count_of meta in
+    let new : ℕ = page_count meta in
     let moved : List Record = inserts new 0 (right_half page at) in
     let on : List Record = linked_on new page.next in
     let to : List Record = linked_to page page.page new in
@@ -141,11 +142,11 @@ split_group key parent page meta at tree within level some room next bound =
 
 pub root_group : (root meta : Image) (at : ℕ) → IsTreePage root → at < length root.items → LevelFits root.kind root.level → root.level < 8
     → AllByRecursion (λ x. 1 ≤ length x) (take at root.items) → used (take at root.items) ≤ PAGE_BYTES - PAGE_HEADER_BYTES
-    → AllByRecursion (λ x. 1 ≤ length x) (right_half root at) → used (right_half root at) ≤ PAGE_BYTES - PAGE_HEADER_BYTES → count_of meta + 1 ≤ 32767
+    → AllByRecursion (λ x. 1 ≤ length x) (right_half root at) → used (right_half root at) ≤ PAGE_BYTES - PAGE_HEADER_BYTES → page_count meta + 1 ≤ 32767
     → MakeGroup (root_split_records root at meta)
 root_group root meta at tree within level low some_left room_left some_right room_right bound =
-    let left : ℕ = count_of meta in
-    let right : ℕ = count_of meta + 1 in
+    let left : ℕ = page_count meta in
+    let right : ℕ = page_count meta + 1 in
     let a : List Record = inserts left 0 (take at root.items) in
     let b : List Record = inserts right 0 (right_half root at) in
     let to : List Record = linked_to root left right in
@@ -178,7 +179,7 @@ root_group root meta at tree within level low some_left room_left some_right roo
 
 -- ---- the count
 
-pub counted : (meta : Image) (n lsn : ℕ) → IsMeta meta → length meta.body ≡ PAGE_BYTES - PAGE_HEADER_BYTES → n < 256 ^ 4 → Counts (patched meta COUNT_AT (field 4 n) lsn) n
+pub counted : (meta : Image) (n lsn : ℕ) → IsMeta meta → length meta.body ≡ PAGE_BYTES - PAGE_HEADER_BYTES → n < 256 ^ 4 → Counts (patched meta PAGE_COUNT_AT (field 4 n) lsn) n
 counted meta n lsn is long fits =
     let rest : List ℕ = drop (4 + length (field 4 n)) meta.body in
     let front : length (take 4 meta.body) ≡ 4 = length-take-le 4 meta.body (omega (arith, long)) in

@@ -14,7 +14,6 @@ pub mod FrameLaws
 pub mod BeginLaws
 pub mod ChangeLaws
 pub mod AnswerLaws
-pub mod CountLaws
 pub mod HalfLaws
 pub mod HeavyLaws
 pub mod SplitLaws

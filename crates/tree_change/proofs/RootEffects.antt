@@ -6,6 +6,7 @@ use Rattle.std.specs.List.{AllByRecursion}
 use Rattle.std.proofs.lemmas.List.{length-append}
 use Rattle.rm_base.specs.Fields.{field}
 use Rattle.rm_base.proofs.FieldLaws.{length-field}
+use Rattle.page_image.specs.Meta.{page_count}
 use Rattle.page_image.specs.declared.kind.Kind.{Kind}
 use Rattle.page_image.specs.declared.kind.Kind.TheVariants.{Unmade, Meta, Leaf, Inner}
 use Rattle.page_image.specs.Image.{Image, unmade, used, is_slotted, is_inner, LevelFits, made, inserted, cut_from, patched}
@@ -13,8 +14,8 @@ use Rattle.redo_record.specs.declared.redo.Record.{Record}
 use Rattle.redo_record.specs.declared.redo.Record.TheVariants.{Make, InsertSlot, Cut, Link}
 use Rattle.redo_record.specs.Effect.{page_of, after_records, RecordsApply}
 use Rattle.redo_record.proofs.Fold.{after_records-append, RecordsApply-append}
-use Rattle.tree_change.specs.declared.counting.TheConstants.{COUNT_AT}
-use Rattle.tree_change.specs.Splits.{count_of, right_half, separator, inserts, linked_to, counts, entry_of, made_halves, made_root, root_split_records}
+use Rattle.page_image.specs.declared.meta.TheConstants.{PAGE_COUNT_AT}
+use Rattle.tree_change.specs.Splits.{right_half, separator, inserts, linked_to, counts, entry_of, made_halves, made_root, root_split_records}
 use Rattle.tree_change.proofs.ListLaws.{all_join}
 use Rattle.tree_change.proofs.EffectLaws.{NoneFor, none_of, untouched, none_apply, skip, skip_apply, own_apply, other_apply, own_after, other_after}
 use Rattle.tree_change.proofs.MoveLaws.{inserts_pages, filled, inserts_apply}
@@ -25,14 +26,14 @@ turn a b h e = h (sym e)
 
 abbrev pub rest_records : Image → ℕ → Image → List Record
 rest_records root at meta =
-    made_root root at (count_of meta) (count_of meta + 1) ++ counts meta (count_of meta + 1 + 1) ∷ []
+    made_root root at (page_count meta) (page_count meta + 1) ++ counts meta (page_count meta + 1 + 1) ∷ []
 
 -- the records are for the four pages alone
-pub none_root : (root meta : Image) (at other : ℕ) → root.page ≢ other → count_of meta ≢ other → count_of meta + 1 ≢ other → meta.page ≢ other
+pub none_root : (root meta : Image) (at other : ℕ) → root.page ≢ other → page_count meta ≢ other → page_count meta + 1 ≢ other → meta.page ≢ other
     → NoneFor other (root_split_records root at meta)
 none_root root meta at other r a b m =
-    let left : ℕ = count_of meta in
-    let right : ℕ = count_of meta + 1 in
+    let left : ℕ = page_count meta in
+    let right : ℕ = page_count meta + 1 in
     let Q = λ (x : Record). page_of x ≢ other in
     all_join Q (made_halves root at left right) (linked_to root left right ++ rest_records root at meta) (
       a,
@@ -70,12 +71,12 @@ one_page kind page level lsn xs =
 rest_none : (root meta : Image) (at other : ℕ) → root.page ≢ other → meta.page ≢ other → NoneFor other (rest_records root at meta)
 rest_none root meta at other r m = (r, (r, (r, (r, (m, tt)))))
 
-left_after : (root meta : Image) (at lsn : ℕ) → count_of meta ≢ count_of meta + 1
-    → after_records lsn (made_halves root at (count_of meta) (count_of meta + 1)) (unmade (count_of meta))
-    ≡ after_records lsn (inserts (count_of meta) 0 (take at root.items)) (made (unmade (count_of meta)) root.kind root.level lsn)
+left_after : (root meta : Image) (at lsn : ℕ) → page_count meta ≢ page_count meta + 1
+    → after_records lsn (made_halves root at (page_count meta) (page_count meta + 1)) (unmade (page_count meta))
+    ≡ after_records lsn (inserts (page_count meta) 0 (take at root.items)) (made (unmade (page_count meta)) root.kind root.level lsn)
 left_after root meta at lsn ne =
-    let left : ℕ = count_of meta in
-    let right : ℕ = count_of meta + 1 in
+    let left : ℕ = page_count meta in
+    let right : ℕ = page_count meta + 1 in
     let one : Image = made (unmade left) root.kind root.level lsn in
     let a : List Record = inserts left 0 (take at root.items) in
     let b : List Record = inserts right 0 (right_half root at) in
@@ -86,11 +87,11 @@ left_after root meta at lsn ne =
     ∙ after_records-append lsn a b one
     ∙ untouched lsn b om (none_of right om.page b (inserts_pages right 0 (right_half root at)) (λ e. ne (sym (e ∙ m.number))))
 
-pub on_left : (root meta : Image) (at lsn : ℕ) → Apart root.page (count_of meta) (count_of meta + 1) meta.page
-    → IsMade root.kind (count_of meta) root.level (left_next root (count_of meta + 1)) (take at root.items) (after_records lsn (root_split_records root at meta) (unmade (count_of meta)))
+pub on_left : (root meta : Image) (at lsn : ℕ) → Apart root.page (page_count meta) (page_count meta + 1) meta.page
+    → IsMade root.kind (page_count meta) root.level (left_next root (page_count meta + 1)) (take at root.items) (after_records lsn (root_split_records root at meta) (unmade (page_count meta)))
 on_left root meta at lsn d =
-    let left : ℕ = count_of meta in
-    let right : ℕ = count_of meta + 1 in
+    let left : ℕ = page_count meta in
+    let right : ℕ = page_count meta + 1 in
     let one : Image = made (unmade left) root.kind root.level lsn in
     let om : Image = after_records lsn (inserts left 0 (take at root.items)) one in
     let m = one_page root.kind left root.level lsn (take at root.items) in
@@ -105,12 +106,12 @@ on_left root meta at lsn d =
 
 -- ---- the right page
 
-right_after : (root meta : Image) (at lsn : ℕ) → count_of meta ≢ count_of meta + 1
-    → after_records lsn (made_halves root at (count_of meta) (count_of meta + 1)) (unmade (count_of meta + 1))
-    ≡ after_records lsn (inserts (count_of meta + 1) 0 (right_half root at)) (made (unmade (count_of meta + 1)) root.kind root.level lsn)
+right_after : (root meta : Image) (at lsn : ℕ) → page_count meta ≢ page_count meta + 1
+    → after_records lsn (made_halves root at (page_count meta) (page_count meta + 1)) (unmade (page_count meta + 1))
+    ≡ after_records lsn (inserts (page_count meta + 1) 0 (right_half root at)) (made (unmade (page_count meta + 1)) root.kind root.level lsn)
 right_after root meta at lsn ne =
-    let left : ℕ = count_of meta in
-    let right : ℕ = count_of meta + 1 in
+    let left : ℕ = page_count meta in
+    let right : ℕ = page_count meta + 1 in
     let one : Image = made (unmade right) root.kind root.level lsn in
     let a : List Record = inserts left 0 (take at root.items) in
     let b : List Record = inserts right 0 (right_half root at) in
@@ -118,11 +119,11 @@ right_after root meta at lsn ne =
     ∙ own_after lsn (Make right root.kind root.level) (a ++ b) (unmade right) refl
     ∙ skip lsn a b one (none_of left right a (inserts_pages left 0 (take at root.items)) ne)
 
-pub on_right : (root meta : Image) (at lsn : ℕ) → Apart root.page (count_of meta) (count_of meta + 1) meta.page
-    → IsMade root.kind (count_of meta + 1) root.level 0 (right_half root at) (after_records lsn (root_split_records root at meta) (unmade (count_of meta + 1)))
+pub on_right : (root meta : Image) (at lsn : ℕ) → Apart root.page (page_count meta) (page_count meta + 1) meta.page
+    → IsMade root.kind (page_count meta + 1) root.level 0 (right_half root at) (after_records lsn (root_split_records root at meta) (unmade (page_count meta + 1)))
 on_right root meta at lsn d =
-    let left : ℕ = count_of meta in
-    let right : ℕ = count_of meta + 1 in
+    let left : ℕ = page_count meta in
+    let right : ℕ = page_count meta + 1 in
     let one : Image = made (unmade right) root.kind root.level lsn in
     let om : Image = after_records lsn (inserts right 0 (right_half root at)) one in
     let m = one_page root.kind right root.level lsn (right_half root at) in
@@ -143,10 +144,10 @@ abbrev pub new_root : Image → ℕ → ℕ → ℕ → ℕ → Image
 new_root root at left right lsn =
     inserted (inserted (made (cut_from root 0 lsn) Inner (root.level + 1) lsn) 0 (entry_of [] left) lsn) 1 (entry_of (separator root at) right) lsn
 
-none_halves : (root meta : Image) (at other : ℕ) → count_of meta ≢ other → count_of meta + 1 ≢ other → NoneFor other (made_halves root at (count_of meta) (count_of meta + 1))
+none_halves : (root meta : Image) (at other : ℕ) → page_count meta ≢ other → page_count meta + 1 ≢ other → NoneFor other (made_halves root at (page_count meta) (page_count meta + 1))
 none_halves root meta at other a b =
-    let left : ℕ = count_of meta in
-    let right : ℕ = count_of meta + 1 in (
+    let left : ℕ = page_count meta in
+    let right : ℕ = page_count meta + 1 in (
       a,
       (
         b,
@@ -156,11 +157,11 @@ none_halves root meta at other a b =
       ),
     )
 
-pub on_root : (root meta : Image) (at lsn : ℕ) → Apart root.page (count_of meta) (count_of meta + 1) meta.page
-    → after_records lsn (root_split_records root at meta) root ≡ new_root root at (count_of meta) (count_of meta + 1) lsn
+pub on_root : (root meta : Image) (at lsn : ℕ) → Apart root.page (page_count meta) (page_count meta + 1) meta.page
+    → after_records lsn (root_split_records root at meta) root ≡ new_root root at (page_count meta) (page_count meta + 1) lsn
 on_root root meta at lsn d =
-    let left : ℕ = count_of meta in
-    let right : ℕ = count_of meta + 1 in
+    let left : ℕ = page_count meta in
+    let right : ℕ = page_count meta + 1 in
     let p : ℕ = root.page in
     let r1 : Image = cut_from root 0 lsn in
     let r2 : Image = made r1 Inner (root.level + 1) lsn in
@@ -186,13 +187,13 @@ linked_left_apply root left right lsn om s b = by_test (is_inner root.kind)
     by_test true = tt
     by_test false = ((λ _. record { slotted = s; bound = b }), tt)
 
-pub apply_left : (root meta : Image) (at lsn : ℕ) → Apart root.page (count_of meta) (count_of meta + 1) meta.page
+pub apply_left : (root meta : Image) (at lsn : ℕ) → Apart root.page (page_count meta) (page_count meta + 1) meta.page
     → root.kind ≢ Unmade → LevelFits root.kind root.level → is_slotted root.kind ≡ true
-    → AllByRecursion (λ x. 1 ≤ length x) (take at root.items) → used (take at root.items) ≤ PAGE_BYTES - PAGE_HEADER_BYTES → count_of meta + 1 ≤ 32767
-    → RecordsApply lsn (root_split_records root at meta) (unmade (count_of meta))
+    → AllByRecursion (λ x. 1 ≤ length x) (take at root.items) → used (take at root.items) ≤ PAGE_BYTES - PAGE_HEADER_BYTES → page_count meta + 1 ≤ 32767
+    → RecordsApply lsn (root_split_records root at meta) (unmade (page_count meta))
 apply_left root meta at lsn d some fits slotted each room bound =
-    let left : ℕ = count_of meta in
-    let right : ℕ = count_of meta + 1 in
+    let left : ℕ = page_count meta in
+    let right : ℕ = page_count meta + 1 in
     let one : Image = made (unmade left) root.kind root.level lsn in
     let a : List Record = inserts left 0 (take at root.items) in
     let b : List Record = inserts right 0 (right_half root at) in
@@ -211,13 +212,13 @@ apply_left root meta at lsn d some fits slotted each room bound =
     (linked_left_apply root left right lsn om (ap is_slotted m.kind_is ∙ slotted) bound)
     (none_apply lsn (rest_records root at meta) om2 (rest_none root meta at om2.page (λ e. d.ab (e ∙ m2.number)) (λ e. d.bd (sym (e ∙ m2.number)))))))
 
-pub apply_right : (root meta : Image) (at lsn : ℕ) → Apart root.page (count_of meta) (count_of meta + 1) meta.page
+pub apply_right : (root meta : Image) (at lsn : ℕ) → Apart root.page (page_count meta) (page_count meta + 1) meta.page
     → root.kind ≢ Unmade → LevelFits root.kind root.level → is_slotted root.kind ≡ true
     → AllByRecursion (λ x. 1 ≤ length x) (right_half root at) → used (right_half root at) ≤ PAGE_BYTES - PAGE_HEADER_BYTES
-    → RecordsApply lsn (root_split_records root at meta) (unmade (count_of meta + 1))
+    → RecordsApply lsn (root_split_records root at meta) (unmade (page_count meta + 1))
 apply_right root meta at lsn d some fits slotted each room =
-    let left : ℕ = count_of meta in
-    let right : ℕ = count_of meta + 1 in
+    let left : ℕ = page_count meta in
+    let right : ℕ = page_count meta + 1 in
     let one : Image = made (unmade right) root.kind root.level lsn in
     let a : List Record = inserts left 0 (take at root.items) in
     let b : List Record = inserts right 0 (right_half root at) in
@@ -235,12 +236,12 @@ apply_right root meta at lsn d some fits slotted each room =
     (none_of left om.page (linked_to root left right) (linked_to_pages root left right) (λ e. d.bc (e ∙ m.number)))
     (rest_none root meta at om.page (λ e. d.ac (e ∙ m.number)) (λ e. d.cd (sym (e ∙ m.number)))))))
 
-pub apply_root : (root meta : Image) (at lsn : ℕ) → Apart root.page (count_of meta) (count_of meta + 1) meta.page
+pub apply_root : (root meta : Image) (at lsn : ℕ) → Apart root.page (page_count meta) (page_count meta + 1) meta.page
     → (root.kind ≡ Leaf) ⊎ (root.kind ≡ Inner) → is_slotted root.kind ≡ true → root.level < 8 → length (separator root at) ≤ 64
     → RecordsApply lsn (root_split_records root at meta) root
 apply_root root meta at lsn d kind slotted low short =
-    let left : ℕ = count_of meta in
-    let right : ℕ = count_of meta + 1 in
+    let left : ℕ = page_count meta in
+    let right : ℕ = page_count meta + 1 in
     let p : ℕ = root.page in
     let r1 : Image = cut_from root 0 lsn in
     let r2 : Image = made r1 Inner (root.level + 1) lsn in
@@ -261,22 +262,22 @@ apply_root root meta at lsn d kind slotted low short =
     (own_apply lsn i1 last r3 refl (record { slotted = refl; some = omega arith; place = omega arith; room = omega (arith, f0, f1, a1, short) })
     (other_apply lsn (counts meta (right + 1)) [] (new_root root at left right lsn) (turn p meta.page d.ad) tt))))))
 
-pub apply_root_meta : (root meta : Image) (at lsn : ℕ) → Apart root.page (count_of meta) (count_of meta + 1) meta.page → meta.kind ≡ Meta
+pub apply_root_meta : (root meta : Image) (at lsn : ℕ) → Apart root.page (page_count meta) (page_count meta + 1) meta.page → meta.kind ≡ Meta
     → RecordsApply lsn (root_split_records root at meta) meta
 apply_root_meta root meta at lsn d e =
-    let left : ℕ = count_of meta in
-    let right : ℕ = count_of meta + 1 in
+    let left : ℕ = page_count meta in
+    let right : ℕ = page_count meta + 1 in
     let m : ℕ = meta.page in
     skip_apply lsn (made_halves root at left right) (linked_to root left right ++ rest_records root at meta) meta (none_halves root meta at m d.bd d.cd)
     (skip_apply lsn (linked_to root left right) (rest_records root at meta) meta (none_of left m (linked_to root left right) (linked_to_pages root left right) d.bd)
     (skip_apply lsn (made_root root at left right) (counts meta (right + 1) ∷ []) meta (d.ad, (d.ad, (d.ad, (d.ad, tt))))
     (own_apply lsn (counts meta (right + 1)) [] meta refl (can_count meta (right + 1) e) tt)))
 
-pub on_root_meta : (root meta : Image) (at lsn : ℕ) → Apart root.page (count_of meta) (count_of meta + 1) meta.page
-    → after_records lsn (root_split_records root at meta) meta ≡ patched meta COUNT_AT (field 4 (count_of meta + 1 + 1)) lsn
+pub on_root_meta : (root meta : Image) (at lsn : ℕ) → Apart root.page (page_count meta) (page_count meta + 1) meta.page
+    → after_records lsn (root_split_records root at meta) meta ≡ patched meta PAGE_COUNT_AT (field 4 (page_count meta + 1 + 1)) lsn
 on_root_meta root meta at lsn d =
-    let left : ℕ = count_of meta in
-    let right : ℕ = count_of meta + 1 in
+    let left : ℕ = page_count meta in
+    let right : ℕ = page_count meta + 1 in
     let m : ℕ = meta.page in
     skip lsn (made_halves root at left right) (linked_to root left right ++ rest_records root at meta) meta (none_halves root meta at m d.bd d.cd)
     ∙ skip lsn (linked_to root left right) (rest_records root at meta) meta (none_of left m (linked_to root left right) (linked_to_pages root left right) d.bd)

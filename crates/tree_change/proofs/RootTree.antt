@@ -8,7 +8,7 @@ use Rattle.std.proofs.lemmas.Bool.{eq-eqb, ne_eqb}
 use Rattle.std.proofs.lemmas.Bool.Decides.{eqb_tells}
 use Rattle.page_image.specs.declared.kind.Kind.TheVariants.{Unmade, Meta, Leaf, Inner}
 use Rattle.rm_base.specs.Fields.{field}
-use Rattle.tree_change.specs.declared.counting.TheConstants.{COUNT_AT}
+use Rattle.page_image.specs.declared.meta.TheConstants.{PAGE_COUNT_AT}
 use Rattle.page_image.specs.Image.{Image, unmade, used, is_inner, has_body, LevelFits, patched}
 use Rattle.page_image.specs.Rules.{IsImage}
 use Rattle.page_view.specs.Inner.{InnerItem, inner_bytes}
@@ -16,10 +16,11 @@ use Rattle.page_view.specs.Keys.{key_in, keys_of, key_cmp}
 use Rattle.redo_record.specs.declared.redo.Record.{Record}
 use Rattle.redo_record.specs.Effect.{after_records, RecordsApply}
 use Rattle.std.specs.declared.cmp.Ordering.TheVariants.{Less}
+use Rattle.page_image.specs.Meta.{IsMeta, page_count}
 use Rattle.bplus_tree.specs.Tree.{IsLeafPage, IsInnerPage, Stands, Tree, is_leaf, leaves_of, Linked}
 use Rattle.tree_change.specs.Way.{IsWayTo}
 use Rattle.tree_change.specs.Places.{page_on}
-use Rattle.tree_change.specs.Splits.{IsSplitPlace, IsMeta, count_of, right_half, separator, root_split_records, root_split_plan}
+use Rattle.tree_change.specs.Splits.{IsSplitPlace, right_half, separator, root_split_records, root_split_plan}
 use Rattle.tree_change.specs.Pages.{IsTreePage}
 use Rattle.tree_change.specs.Effects.{pages_after, MakeGroup, GrowsOn, Counts, Keeps}
 use Rattle.tree_change.proofs.ListLaws.{all_weaker}
@@ -47,9 +48,9 @@ pub record RootSetting (key : List ℕ) (path : List Image) (w : IsWayTo key pat
   pub low : (w.pages w.root).level < 8
   pub is_meta : IsMeta meta
   pub meta_there : w.pages meta.page ≡ meta
-  pub left_there : w.pages (count_of meta) ≡ unmade (count_of meta)
-  pub right_there : w.pages (count_of meta + 1) ≡ unmade (count_of meta + 1)
-  pub bound : count_of meta + 1 ≤ 32767
+  pub left_there : w.pages (page_count meta) ≡ unmade (page_count meta)
+  pub right_there : w.pages (page_count meta + 1) ≡ unmade (page_count meta + 1)
+  pub bound : page_count meta + 1 ≤ 32767
 
 abbrev pub root_rs : (key : List ℕ) (path : List Image) (w : IsWayTo key path) (meta : Image) (place : ℕ) → List Record
 root_rs key path w meta place = root_split_records (w.pages w.root) place meta
@@ -82,16 +83,16 @@ meta_kind : (pages : ℕ → Image) (meta : Image) → pages meta.page ≡ meta 
 meta_kind pages meta m is = ap (λ (o : Image). o.kind) m ∙ is.kind
 
 pub root_apart : (key : List ℕ) (path : List Image) (w : IsWayTo key path) (meta : Image) (place : ℕ) → RootSetting key path w meta place
-    → Apart (w.pages w.root).page (count_of meta) (count_of meta + 1) meta.page
+    → Apart (w.pages w.root).page (page_count meta) (page_count meta + 1) meta.page
 root_apart key path w meta place s =
     let b = below key path w in
     record {
-      ab = λ e. unmade_apart w.pages (count_of meta) w.root (kind_at w.pages (count_of meta) s.left_there) b.node (sym (sym b.node.number ∙ e));
-      ac = λ e. unmade_apart w.pages (count_of meta + 1) w.root (kind_at w.pages (count_of meta + 1) s.right_there) b.node (sym (sym b.node.number ∙ e));
+      ab = λ e. unmade_apart w.pages (page_count meta) w.root (kind_at w.pages (page_count meta) s.left_there) b.node (sym (sym b.node.number ∙ e));
+      ac = λ e. unmade_apart w.pages (page_count meta + 1) w.root (kind_at w.pages (page_count meta + 1) s.right_there) b.node (sym (sym b.node.number ∙ e));
       ad = λ e. meta_apart w.pages meta.page w.root (meta_kind w.pages meta s.meta_there s.is_meta) b.node (sym (sym b.node.number ∙ e));
       bc = λ e. omega (arith, e);
-      bd = no_meta w.pages (count_of meta) meta s.left_there s.meta_there s.is_meta;
-      cd = no_meta w.pages (count_of meta + 1) meta s.right_there s.meta_there s.is_meta;
+      bd = no_meta w.pages (page_count meta) meta s.left_there s.meta_there s.is_meta;
+      cd = no_meta w.pages (page_count meta + 1) meta s.right_there s.meta_there s.is_meta;
     }
 
 -- other pages of the tree stay
@@ -104,8 +105,8 @@ root_same key path w meta place lsn s (q ∷ nodes) n r =
       untouched lsn (root_rs key path w meta place) (w.pages q)
           (none_root (w.pages w.root) meta place (w.pages q).page
           (λ e. r.0 (sym (sym b.node.number ∙ e ∙ one.number)))
-          (λ e. unmade_apart w.pages (count_of meta) q (kind_at w.pages (count_of meta) s.left_there) one (e ∙ one.number))
-          (λ e. unmade_apart w.pages (count_of meta + 1) q (kind_at w.pages (count_of meta + 1) s.right_there) one (e ∙ one.number))
+          (λ e. unmade_apart w.pages (page_count meta) q (kind_at w.pages (page_count meta) s.left_there) one (e ∙ one.number))
+          (λ e. unmade_apart w.pages (page_count meta + 1) q (kind_at w.pages (page_count meta + 1) s.right_there) one (e ∙ one.number))
           (λ e. meta_apart w.pages meta.page q (meta_kind w.pages meta s.meta_there s.is_meta) one (e ∙ one.number))),
       root_same key path w meta place lsn s nodes n.1 r.1,
     )
@@ -166,22 +167,22 @@ pub record Pages (others : ℕ → Image) (im : Image) (left right place : ℕ) 
   pub on_right : IsMade im.kind right im.level 0 (right_half im place) (others right)
 
 pub root_pages : (key : List ℕ) (path : List Image) (w : IsWayTo key path) (meta : Image) (place lsn : ℕ) → RootSetting key path w meta place
-    → Pages (pages_after lsn (root_rs key path w meta place) w.pages) (w.pages w.root) (count_of meta) (count_of meta + 1) place
+    → Pages (pages_after lsn (root_rs key path w meta place) w.pages) (w.pages w.root) (page_count meta) (page_count meta + 1) place
 root_pages key path w meta place lsn s =
     let im : Image = w.pages w.root in
     let rs : List Record = root_rs key path w meta place in
     let d = root_apart key path w meta place s in
     record {
-      on_left = subst (λ (o : Image). IsMade im.kind (count_of meta) im.level (left_next im (count_of meta + 1)) (take place im.items) (after_records lsn rs o)) (sym s.left_there) (on_left im meta place lsn d);
-      on_right = subst (λ (o : Image). IsMade im.kind (count_of meta + 1) im.level 0 (right_half im place) (after_records lsn rs o)) (sym s.right_there) (on_right im meta place lsn d);
+      on_left = subst (λ (o : Image). IsMade im.kind (page_count meta) im.level (left_next im (page_count meta + 1)) (take place im.items) (after_records lsn rs o)) (sym s.left_there) (on_left im meta place lsn d);
+      on_right = subst (λ (o : Image). IsMade im.kind (page_count meta + 1) im.level 0 (right_half im place) (after_records lsn rs o)) (sym s.right_there) (on_right im meta place lsn d);
     }
 
 pub root_halves : (key : List ℕ) (path : List Image) (w : IsWayTo key path) (meta : Image) (place lsn : ℕ) → RootSetting key path w meta place → (b : Below key path w)
-    → Halves (pages_after lsn (root_rs key path w meta place) w.pages) w.tree.level (count_of meta) (count_of meta + 1) None None (separator (w.pages w.root) place) w.items (count_of meta ∷ b.deep)
+    → Halves (pages_after lsn (root_rs key path w meta place) w.pages) w.tree.level (page_count meta) (page_count meta + 1) None None (separator (w.pages w.root) place) w.items (page_count meta ∷ b.deep)
 root_halves key path w meta place lsn s b =
     let others : ℕ → Image = pages_after lsn (root_rs key path w meta place) w.pages in
-    let left : ℕ = count_of meta in
-    let right : ℕ = count_of meta + 1 in
+    let left : ℕ = page_count meta in
+    let right : ℕ = page_count meta + 1 in
     let im : Image = w.pages w.root in
     let virtual : ℕ → Image = moved w.pages w.root left in
     let here : virtual left ≡ record im { page = left } = moved_left w.pages w.root left in
@@ -212,13 +213,13 @@ level_of_root pages zero root items nodes h im = subst (λ k. LevelFits k (pages
 level_of_root pages (suc m) root items nodes h im = h.2.height
 
 pub root_stands : (key : List ℕ) (path : List Image) (w : IsWayTo key path) (meta : Image) (place lsn : ℕ) (s : RootSetting key path w meta place) (b : Below key path w)
-    (h : Halves (pages_after lsn (root_rs key path w meta place) w.pages) w.tree.level (count_of meta) (count_of meta + 1) None None (separator (w.pages w.root) place) w.items (count_of meta ∷ b.deep))
+    (h : Halves (pages_after lsn (root_rs key path w meta place) w.pages) w.tree.level (page_count meta) (page_count meta + 1) None None (separator (w.pages w.root) place) w.items (page_count meta ∷ b.deep))
     → Stands (pages_after lsn (root_rs key path w meta place) w.pages) (suc w.tree.level) w.root None None w.items (w.root ∷ (h.left_nodes ++ h.right_nodes))
 root_stands key path w meta place lsn s b h =
     let others : ℕ → Image = pages_after lsn (root_rs key path w meta place) w.pages in
     let im : Image = w.pages w.root in
-    let left : ℕ = count_of meta in
-    let right : ℕ = count_of meta + 1 in
+    let left : ℕ = page_count meta in
+    let right : ℕ = page_count meta + 1 in
     let sep : List ℕ = separator im place in
     let e0 : InnerItem = record { key = []; child = left } in
     let e1 : InnerItem = record { key = sep; child = right } in
@@ -288,12 +289,12 @@ root_linked pages others (suc m) root left right place items nodes deep ol or h 
     (subst (λ (n : List ℕ). Linked pages (leaves_of pages n)) (are ∙ ap (λ (d : List ℕ). root ∷ d) deep_is) linked)
 
 pub root_tree : (key : List ℕ) (path : List Image) (w : IsWayTo key path) (meta : Image) (place lsn : ℕ) → RootSetting key path w meta place
-    → GrowsOn (pages_after lsn (root_rs key path w meta place) w.pages) w.root w.items w.tree.nodes (count_of meta ∷ (count_of meta + 1) ∷ [])
+    → GrowsOn (pages_after lsn (root_rs key path w meta place) w.pages) w.root w.items w.tree.nodes (page_count meta ∷ (page_count meta + 1) ∷ [])
 root_tree key path w meta place lsn s =
     let others : ℕ → Image = pages_after lsn (root_rs key path w meta place) w.pages in
     let im : Image = w.pages w.root in
-    let left : ℕ = count_of meta in
-    let right : ℕ = count_of meta + 1 in
+    let left : ℕ = page_count meta in
+    let right : ℕ = page_count meta + 1 in
     let b = below key path w in
     let h = root_halves key path w meta place lsn s b in
     let ol : List ℕ = h.old_left in
@@ -337,8 +338,8 @@ pub root_applies : (key : List ℕ) (path : List Image) (w : IsWayTo key path) (
 root_applies key path w meta place lsn s page number =
     let im : Image = w.pages w.root in
     let rs : List Record = root_rs key path w meta place in
-    let left : ℕ = count_of meta in
-    let right : ℕ = count_of meta + 1 in
+    let left : ℕ = page_count meta in
+    let right : ℕ = page_count meta + 1 in
     let b = below key path w in
     let d = root_apart key path w meta place s in
     let node = slotted_node w.pages w.root b.node in
@@ -375,11 +376,11 @@ root_is key path w =
     a.is ∙ ap w.pages (sym a.down.1)
 
 pub root_keeps : (key : List ℕ) (path : List Image) (place : ℕ) (meta : Image) → IsSplitPlace (page_on path 0).items place → IsTreePage (page_on path 0)
-    → IsImage (page_on path 0) → (page_on path 0).level < 8 → IsMeta meta → IsImage meta → count_of meta + 1 ≤ 32767
+    → IsImage (page_on path 0) → (page_on path 0).level < 8 → IsMeta meta → IsImage meta → page_count meta + 1 ≤ 32767
     → Keeps key path meta (root_split_plan (page_on path 0) place meta)
 root_keeps key path place meta is_place page_is image low is_meta meta_image bound =
-    let left : ℕ = count_of meta in
-    let right : ℕ = count_of meta + 1 in
+    let left : ℕ = page_count meta in
+    let right : ℕ = page_count meta + 1 in
     record {
       group = group;
       only = λ lsn im ne. untouched lsn (root_split_records (page_on path 0) place meta) im (none_root (page_on path 0) meta place im.page ne.0 ne.1.0 ne.1.1.0 ne.1.1.1.0);
@@ -393,13 +394,13 @@ root_keeps key path place meta is_place page_is image low is_meta meta_image bou
           (root_tree key path w meta place lsn (setting w fresh.meta_is fresh.unmade.0 fresh.unmade.1.0));
       counts = λ w fresh lsn.
           let s = setting w fresh.meta_is fresh.unmade.0 fresh.unmade.1.0 in
-          let after : pages_after lsn (root_rs key path w meta place) w.pages meta.page ≡ patched meta COUNT_AT (field 4 (right + 1)) lsn =
+          let after : pages_after lsn (root_rs key path w meta place) w.pages meta.page ≡ patched meta PAGE_COUNT_AT (field 4 (right + 1)) lsn =
           ap (after_records lsn (root_rs key path w meta place)) fresh.meta_is ∙ on_root_meta (w.pages w.root) meta place lsn (root_apart key path w meta place s) in
           let whole = meta_image.whole_body (ap has_body is_meta.kind) in
-          let done : Counts (patched meta COUNT_AT (field 4 (right + 1)) lsn) (right + 1) = counted meta (right + 1) lsn is_meta whole (omega arith) in
-          let sum : right + 1 ≡ count_of meta + 2 = omega arith in
-          subst (λ (r : List Record). Counts (pages_after lsn r w.pages meta.page) (count_of meta + 2)) (sym (same w))
-          (subst (λ (o : Image). Counts o (count_of meta + 2)) (sym after) (subst (Counts (patched meta COUNT_AT (field 4 (right + 1)) lsn)) sum done));
+          let done : Counts (patched meta PAGE_COUNT_AT (field 4 (right + 1)) lsn) (right + 1) = counted meta (right + 1) lsn is_meta whole (omega arith) in
+          let sum : right + 1 ≡ page_count meta + 2 = omega arith in
+          subst (λ (r : List Record). Counts (pages_after lsn r w.pages meta.page) (page_count meta + 2)) (sym (same w))
+          (subst (λ (o : Image). Counts o (page_count meta + 2)) (sym after) (subst (Counts (patched meta PAGE_COUNT_AT (field 4 (right + 1)) lsn)) sum done));
     }
   where
     root : Image
@@ -417,8 +418,8 @@ root_keeps key path place meta is_place page_is image low is_meta meta_image bou
         → Contains w.tree.nodes page ⊎ (Contains (root_split_plan (page_on path 0) place meta).made page ⊎ (page ≡ meta.page))
     within w page c =
         let b = below key path w in
-        let left : ℕ = count_of meta in
-        let right : ℕ = count_of meta + 1 in
+        let left : ℕ = page_count meta in
+        let right : ℕ = page_count meta + 1 in
         let number : root.page ≡ w.root = ap (λ (o : Image). o.page) (root_is key path w) ∙ b.node.number in
         let own : Contains w.tree.nodes root.page =
         subst (Contains w.tree.nodes) (sym number) (subst (λ (n : List ℕ). Contains n w.root) (sym b.nodes_are) (here w.root b.deep)) in
@@ -428,7 +429,7 @@ root_keeps key path place meta is_place page_is image low is_meta meta_image bou
     same : (w : IsWayTo key path) → root_split_records (page_on path 0) place meta ≡ root_rs key path w meta place
     same w = ap (λ (o : Image). root_split_records o place meta) (root_is key path w)
 
-    setting : (w : IsWayTo key path) → w.pages meta.page ≡ meta → w.pages (count_of meta) ≡ unmade (count_of meta) → w.pages (count_of meta + 1) ≡ unmade (count_of meta + 1) → RootSetting key path w meta place
+    setting : (w : IsWayTo key path) → w.pages meta.page ≡ meta → w.pages (page_count meta) ≡ unmade (page_count meta) → w.pages (page_count meta + 1) ≡ unmade (page_count meta + 1) → RootSetting key path w meta place
     setting w m l r =
         let e = root_is key path w in
         record {

@@ -5,6 +5,7 @@ use Rattle.std.specs.List.{AllByRecursion}
 use Rattle.std.proofs.lemmas.Bool.{eqb-true}
 use Rattle.rm_base.specs.Fields.{field}
 use Rattle.rm_base.proofs.FieldLaws.{length-field}
+use Rattle.page_image.specs.Meta.{page_count}
 use Rattle.page_image.specs.declared.kind.Kind.{Kind}
 use Rattle.page_image.specs.declared.kind.Kind.TheVariants.{Unmade, Meta}
 use Rattle.page_image.specs.Image.{Image, unmade, used, is_slotted, is_inner, has_body, LevelFits, made, CanInsert, inserted, cut_from, linked, CanPatch, patched}
@@ -12,9 +13,9 @@ use Rattle.redo_record.specs.declared.redo.Record.{Record}
 use Rattle.redo_record.specs.declared.redo.Record.TheVariants.{Make, InsertSlot, Cut, Link}
 use Rattle.redo_record.specs.Effect.{page_of, after_records, RecordsApply}
 use Rattle.redo_record.proofs.Fold.{after_records-append, RecordsApply-append}
-use Rattle.tree_change.specs.declared.counting.TheConstants.{COUNT_AT}
+use Rattle.page_image.specs.declared.meta.TheConstants.{PAGE_COUNT_AT}
 use Rattle.tree_change.specs.Places.{not_greater}
-use Rattle.tree_change.specs.Splits.{count_of, right_half, separator, inserts, linked_on, linked_to, counts, entry_of, made_right, split_records}
+use Rattle.tree_change.specs.Splits.{right_half, separator, inserts, linked_on, linked_to, counts, entry_of, made_right, split_records}
 use Rattle.tree_change.proofs.ListLaws.{all_join}
 use Rattle.tree_change.proofs.EffectLaws.{NoneFor, none_of, untouched, none_apply, skip, skip_apply, own_apply, other_apply, own_after, other_after}
 use Rattle.tree_change.proofs.MoveLaws.{inserts_pages, filled, inserts_apply}
@@ -108,12 +109,12 @@ turn a b h e = h (sym e)
 
 abbrev pub last_records : List ℕ → Image → Image → ℕ → Image → List Record
 last_records key parent page at meta =
-    Cut page.page at ∷ InsertSlot parent.page (not_greater key parent.items) (entry_of (separator page at) (count_of meta)) ∷ counts meta (count_of meta + 1) ∷ []
+    Cut page.page at ∷ InsertSlot parent.page (not_greater key parent.items) (entry_of (separator page at) (page_count meta)) ∷ counts meta (page_count meta + 1) ∷ []
 
-pub on_new : (key : List ℕ) (parent page meta : Image) (at lsn : ℕ) → Apart parent.page page.page (count_of meta) meta.page
-    → IsMade page.kind (count_of meta) page.level page.next (right_half page at) (after_records lsn (split_records key parent page at meta) (unmade (count_of meta)))
+pub on_new : (key : List ℕ) (parent page meta : Image) (at lsn : ℕ) → Apart parent.page page.page (page_count meta) meta.page
+    → IsMade page.kind (page_count meta) page.level page.next (right_half page at) (after_records lsn (split_records key parent page at meta) (unmade (page_count meta)))
 on_new key parent page meta at lsn d =
-    let new : ℕ = count_of meta in
+    let new : ℕ = page_count meta in
     let rest : List Record = linked_to page page.page new ++ last_records key parent page at meta in
     let om : Image = after_records lsn (made_right page at new) (unmade new) in
     let m : IsMade page.kind new page.level page.next (right_half page at) om = after_made page.kind new page.level page.next lsn (right_half page at) in
@@ -121,16 +122,16 @@ on_new key parent page meta at lsn d =
     let none : NoneFor om.page rest =
     all_join (λ r. page_of r ≢ om.page) (linked_to page page.page new) (last_records key parent page at meta)
     (none_of page.page om.page (linked_to page page.page new) (linked_to_pages page page.page new) (other page.page d.bc))
-    (other page.page d.bc, (other parent.page d.ac, (other meta.page (turn (count_of meta) meta.page d.cd), tt))) in
+    (other page.page d.bc, (other parent.page d.ac, (other meta.page (turn (page_count meta) meta.page d.cd), tt))) in
     subst (IsMade page.kind new page.level page.next (right_half page at))
     (sym (after_records-append lsn (made_right page at new) rest (unmade new) ∙ untouched lsn rest om none)) m
 
-pub apply_new : (key : List ℕ) (parent page meta : Image) (at lsn : ℕ) → Apart parent.page page.page (count_of meta) meta.page
+pub apply_new : (key : List ℕ) (parent page meta : Image) (at lsn : ℕ) → Apart parent.page page.page (page_count meta) meta.page
     → page.kind ≢ Unmade → LevelFits page.kind page.level → is_slotted page.kind ≡ true
     → AllByRecursion (λ x. 1 ≤ length x) (right_half page at) → used (right_half page at) ≤ PAGE_BYTES - PAGE_HEADER_BYTES → page.next ≤ 32767
-    → RecordsApply lsn (split_records key parent page at meta) (unmade (count_of meta))
+    → RecordsApply lsn (split_records key parent page at meta) (unmade (page_count meta))
 apply_new key parent page meta at lsn d some fits slotted each room bound =
-    let new : ℕ = count_of meta in
+    let new : ℕ = page_count meta in
     let rest : List Record = linked_to page page.page new ++ last_records key parent page at meta in
     let om : Image = after_records lsn (made_right page at new) (unmade new) in
     let m : IsMade page.kind new page.level page.next (right_half page at) om = after_made page.kind new page.level page.next lsn (right_half page at) in
@@ -138,7 +139,7 @@ apply_new key parent page meta at lsn d some fits slotted each room bound =
     let none : NoneFor om.page rest =
     all_join (λ r. page_of r ≢ om.page) (linked_to page page.page new) (last_records key parent page at meta)
     (none_of page.page om.page (linked_to page page.page new) (linked_to_pages page page.page new) (other page.page d.bc))
-    (other page.page d.bc, (other parent.page d.ac, (other meta.page (turn (count_of meta) meta.page d.cd), tt))) in
+    (other page.page d.bc, (other parent.page d.ac, (other meta.page (turn (page_count meta) meta.page d.cd), tt))) in
     RecordsApply-append lsn (made_right page at new) rest (unmade new) (apply_made page.kind new page.level page.next lsn (right_half page at) some fits slotted each room bound)
     (none_apply lsn rest om none)
 
@@ -148,10 +149,10 @@ none_made page im at new ne = none_of new im.page (made_right page at new) (made
 none_linked : (page im : Image) (p new : ℕ) → p ≢ im.page → NoneFor im.page (linked_to page p new)
 none_linked page im p new ne = none_of p im.page (linked_to page p new) (linked_to_pages page p new) ne
 
-pub on_parent : (key : List ℕ) (parent page meta : Image) (at lsn : ℕ) → Apart parent.page page.page (count_of meta) meta.page
-    → after_records lsn (split_records key parent page at meta) parent ≡ inserted parent (not_greater key parent.items) (entry_of (separator page at) (count_of meta)) lsn
+pub on_parent : (key : List ℕ) (parent page meta : Image) (at lsn : ℕ) → Apart parent.page page.page (page_count meta) meta.page
+    → after_records lsn (split_records key parent page at meta) parent ≡ inserted parent (not_greater key parent.items) (entry_of (separator page at) (page_count meta)) lsn
 on_parent key parent page meta at lsn d =
-    let new : ℕ = count_of meta in
+    let new : ℕ = page_count meta in
     let n : ℕ = not_greater key parent.items in
     let entry : List ℕ = entry_of (separator page at) new in
     let last : List Record = last_records key parent page at meta in
@@ -161,10 +162,10 @@ on_parent key parent page meta at lsn d =
     ∙ own_after lsn (InsertSlot parent.page n entry) (counts meta (new + 1) ∷ []) parent refl
     ∙ other_after lsn (counts meta (new + 1)) [] (inserted parent n entry lsn) (turn parent.page meta.page d.ad)
 
-pub apply_parent : (key : List ℕ) (parent page meta : Image) (at lsn : ℕ) → Apart parent.page page.page (count_of meta) meta.page
-    → CanInsert parent (not_greater key parent.items) (entry_of (separator page at) (count_of meta)) → RecordsApply lsn (split_records key parent page at meta) parent
+pub apply_parent : (key : List ℕ) (parent page meta : Image) (at lsn : ℕ) → Apart parent.page page.page (page_count meta) meta.page
+    → CanInsert parent (not_greater key parent.items) (entry_of (separator page at) (page_count meta)) → RecordsApply lsn (split_records key parent page at meta) parent
 apply_parent key parent page meta at lsn d can =
-    let new : ℕ = count_of meta in
+    let new : ℕ = page_count meta in
     let n : ℕ = not_greater key parent.items in
     let entry : List ℕ = entry_of (separator page at) new in
     let last : List Record = last_records key parent page at meta in
@@ -192,10 +193,10 @@ linked_number page new lsn = by_test (is_inner page.kind)
     by_test true = refl
     by_test false = refl
 
-pub on_page : (key : List ℕ) (parent page meta : Image) (at lsn : ℕ) → Apart parent.page page.page (count_of meta) meta.page
-    → after_records lsn (split_records key parent page at meta) page ≡ cut_from (linked_page page (count_of meta) lsn) at lsn
+pub on_page : (key : List ℕ) (parent page meta : Image) (at lsn : ℕ) → Apart parent.page page.page (page_count meta) meta.page
+    → after_records lsn (split_records key parent page at meta) page ≡ cut_from (linked_page page (page_count meta) lsn) at lsn
 on_page key parent page meta at lsn d =
-    let new : ℕ = count_of meta in
+    let new : ℕ = page_count meta in
     let n : ℕ = not_greater key parent.items in
     let entry : List ℕ = entry_of (separator page at) new in
     let last : List Record = last_records key parent page at meta in
@@ -229,10 +230,10 @@ linked_items page new lsn = by_test (is_inner page.kind)
     by_test true = refl
     by_test false = refl
 
-pub apply_page : (key : List ℕ) (parent page meta : Image) (at lsn : ℕ) → Apart parent.page page.page (count_of meta) meta.page
-    → is_slotted page.kind ≡ true → count_of meta ≤ 32767 → at ≤ length page.items → RecordsApply lsn (split_records key parent page at meta) page
+pub apply_page : (key : List ℕ) (parent page meta : Image) (at lsn : ℕ) → Apart parent.page page.page (page_count meta) meta.page
+    → is_slotted page.kind ≡ true → page_count meta ≤ 32767 → at ≤ length page.items → RecordsApply lsn (split_records key parent page at meta) page
 apply_page key parent page meta at lsn d s b within =
-    let new : ℕ = count_of meta in
+    let new : ℕ = page_count meta in
     let n : ℕ = not_greater key parent.items in
     let entry : List ℕ = entry_of (separator page at) new in
     let last : List Record = last_records key parent page at meta in
@@ -247,15 +248,15 @@ apply_page key parent page meta at lsn d s b within =
     (other_apply lsn (InsertSlot parent.page n entry) (counts meta (new + 1) ∷ []) (cut_from one at lsn) (λ e. d.ab (e ∙ number))
     (other_apply lsn (counts meta (new + 1)) [] (cut_from one at lsn) (λ e. d.bd (sym (e ∙ number))) tt)))))
 
-pub can_count : (meta : Image) (n : ℕ) → meta.kind ≡ Meta → CanPatch meta COUNT_AT (field 4 n)
+pub can_count : (meta : Image) (n : ℕ) → meta.kind ≡ Meta → CanPatch meta PAGE_COUNT_AT (field 4 n)
 can_count meta n e =
     let long = length-field 4 n in
     record { fields = ap has_body e; past_header = omega arith; within = omega (arith, long) }
 
-pub apply_meta : (key : List ℕ) (parent page meta : Image) (at lsn : ℕ) → Apart parent.page page.page (count_of meta) meta.page → meta.kind ≡ Meta
+pub apply_meta : (key : List ℕ) (parent page meta : Image) (at lsn : ℕ) → Apart parent.page page.page (page_count meta) meta.page → meta.kind ≡ Meta
     → RecordsApply lsn (split_records key parent page at meta) meta
 apply_meta key parent page meta at lsn d e =
-    let new : ℕ = count_of meta in
+    let new : ℕ = page_count meta in
     let n : ℕ = not_greater key parent.items in
     let entry : List ℕ = entry_of (separator page at) new in
     let last : List Record = last_records key parent page at meta in
@@ -265,10 +266,10 @@ apply_meta key parent page meta at lsn d e =
     (other_apply lsn (InsertSlot parent.page n entry) (counts meta (new + 1) ∷ []) meta d.ad
     (own_apply lsn (counts meta (new + 1)) [] meta refl (can_count meta (new + 1) e) tt))))
 
-pub on_meta : (key : List ℕ) (parent page meta : Image) (at lsn : ℕ) → Apart parent.page page.page (count_of meta) meta.page
-    → after_records lsn (split_records key parent page at meta) meta ≡ patched meta COUNT_AT (field 4 (count_of meta + 1)) lsn
+pub on_meta : (key : List ℕ) (parent page meta : Image) (at lsn : ℕ) → Apart parent.page page.page (page_count meta) meta.page
+    → after_records lsn (split_records key parent page at meta) meta ≡ patched meta PAGE_COUNT_AT (field 4 (page_count meta + 1)) lsn
 on_meta key parent page meta at lsn d =
-    let new : ℕ = count_of meta in
+    let new : ℕ = page_count meta in
     let n : ℕ = not_greater key parent.items in
     let entry : List ℕ = entry_of (separator page at) new in
     let last : List Record = last_records key parent page at meta in
@@ -279,10 +280,10 @@ on_meta key parent page meta at lsn d =
     ∙ own_after lsn (counts meta (new + 1)) [] meta refl
 
 -- pages that are none of the four
-pub none_else : (key : List ℕ) (parent page meta : Image) (at other : ℕ) → parent.page ≢ other → page.page ≢ other → count_of meta ≢ other → meta.page ≢ other
+pub none_else : (key : List ℕ) (parent page meta : Image) (at other : ℕ) → parent.page ≢ other → page.page ≢ other → page_count meta ≢ other → meta.page ≢ other
     → NoneFor other (split_records key parent page at meta)
 none_else key parent page meta at other p q n m =
-    let new : ℕ = count_of meta in
+    let new : ℕ = page_count meta in
     all_join (λ r. page_of r ≢ other) (made_right page at new) (linked_to page page.page new ++ last_records key parent page at meta)
     (none_of new other (made_right page at new) (made_right_pages page at new) n)
     (all_join (λ r. page_of r ≢ other) (linked_to page page.page new) (last_records key parent page at meta)

@@ -8,6 +8,7 @@ use Rattle.std.proofs.lemmas.List.Elements.{recursion_from_All, All-drop}
 use Rattle.std.proofs.lemmas.Bool.Decides.{eqb_tells}
 use Rattle.rm_base.specs.Fields.{field}
 use Rattle.rm_base.proofs.FieldLaws.{length-field}
+use Rattle.page_image.specs.Meta.{IsMeta, page_count}
 use Rattle.page_image.specs.declared.kind.Kind.TheVariants.{Unmade, Leaf, Inner}
 use Rattle.page_image.specs.Image.{Image, unmade, used, free_of, is_slotted, is_inner, has_body, CanInsert, patched}
 use Rattle.page_image.specs.Rules.{IsImage}
@@ -16,8 +17,8 @@ use Rattle.redo_record.specs.declared.redo.Record.{Record}
 use Rattle.redo_record.specs.Effect.{after_records, RecordsApply}
 use Rattle.tree_change.specs.Way.{IsWayTo}
 use Rattle.tree_change.specs.Places.{page_on, not_greater}
-use Rattle.tree_change.specs.Splits.{IsSplitPlace, IsMeta, count_of, right_half, first_without_key, without_key, separator, entry_of, split_records, split_plan}
-use Rattle.tree_change.specs.declared.counting.TheConstants.{COUNT_AT}
+use Rattle.tree_change.specs.Splits.{IsSplitPlace, right_half, first_without_key, without_key, separator, entry_of, split_records, split_plan}
+use Rattle.page_image.specs.declared.meta.TheConstants.{PAGE_COUNT_AT}
 use Rattle.tree_change.specs.Pages.{IsTreePage}
 use Rattle.tree_change.specs.Effects.{pages_after, MakeGroup, GrowsOn, Counts, Keeps}
 use Rattle.tree_change.proofs.EffectLaws.{untouched, none_apply}
@@ -73,12 +74,12 @@ length_entry key child = let a = length-append key (field 4 child) in let f = le
 
 parent_can : (key : List ℕ) (path : List Image) (w : IsWayTo key path) (i l : ℕ) (meta : Image) (at : ℕ) (s : Setting key path w i l meta at)
     → 71 ≤ free_of (w.pages s.site.parent)
-    → CanInsert (w.pages s.site.parent) (not_greater key (w.pages s.site.parent).items) (entry_of (separator (w.pages s.site.page) at) (count_of meta))
+    → CanInsert (w.pages s.site.parent) (not_greater key (w.pages s.site.parent).items) (entry_of (separator (w.pages s.site.page) at) (page_count meta))
 parent_can key path w i l meta at s room =
     let st = s.site in
     let g = grown key path w i l meta at 0 s in
     let short = g.short in
-    let size = length_entry (separator (w.pages st.page) at) (count_of meta) in
+    let size = length_entry (separator (w.pages st.page) at) (page_count meta) in
     let behind = st.behind in
     let long = ap length st.inner.has ∙ length-map (st.xs ++ (st.entry ∷ st.ys)) inner_bytes ∙ length-append st.xs (st.entry ∷ st.ys) in
     record {
@@ -104,7 +105,7 @@ split_applies key path w i l meta at lsn s image room page number =
       | inl own ↦ subst (λ (p : ℕ). RecordsApply lsn rs (w.pages p)) (sym own.1) (apply_parent key parent im meta at lsn d (parent_can key path w i l meta at s room))
       | inr n1 ↦ elim (eqb_tells page st.page) [
         | inl own ↦ subst (λ (p : ℕ). RecordsApply lsn rs (w.pages p)) (sym own.1) (apply_page key parent im meta at lsn d node.0 s.new_bound within)
-        | inr n2 ↦ elim (eqb_tells page (count_of meta)) [
+        | inr n2 ↦ elim (eqb_tells page (page_count meta)) [
           | inl own ↦ subst (λ (p : ℕ). RecordsApply lsn rs (w.pages p)) (sym own.1)
               (subst (λ (o : Image). RecordsApply lsn rs o) (sym s.new_there)
               (apply_new key parent im meta at lsn d node.1 image.level_fits node.0 right.0 right.1 image.next_bound))
@@ -124,11 +125,11 @@ split_applies key path w i l meta at lsn s image room page number =
 -- ---- and so a split keeps the items
 
 pub split_keeps : (key : List ℕ) (path : List Image) (i at : ℕ) (meta : Image) → i + 1 < length path → IsSplitPlace (page_on path (i + 1)).items at
-    → IsTreePage (page_on path (i + 1)) → IsImage (page_on path (i + 1)) → 71 ≤ free_of (page_on path i) → IsMeta meta → IsImage meta → count_of meta ≤ 32767
+    → IsTreePage (page_on path (i + 1)) → IsImage (page_on path (i + 1)) → 71 ≤ free_of (page_on path i) → IsMeta meta → IsImage meta → page_count meta ≤ 32767
     → Keeps key path meta (split_plan key (page_on path i) (page_on path (i + 1)) at meta)
 split_keeps key path i at meta inside place page_is image room is_meta meta_image bound =
     let rs : List Record = split_records key (page_on path i) (page_on path (i + 1)) at meta in
-    let new : ℕ = count_of meta in
+    let new : ℕ = page_count meta in
     record {
       group = group;
       only = λ lsn im ne. untouched lsn rs im (none_else key (page_on path i) (page_on path (i + 1)) meta at im.page ne.0 ne.1.0 ne.1.1.0 ne.1.1.1.0);
@@ -143,11 +144,11 @@ split_keeps key path i at meta inside place page_is image room is_meta meta_imag
           subst (λ (r : List Record). GrowsOn (pages_after lsn r w.pages) w.root w.items w.tree.nodes (new ∷ [])) (sym (same w s)) (split_tree key path w i (below w) meta at lsn s);
       counts = λ w fresh lsn.
           let s = setting w fresh.meta_is fresh.unmade.0 in
-          let after : pages_after lsn (rs_of key path w i (below w) meta at s) w.pages meta.page ≡ patched meta COUNT_AT (field 4 (new + 1)) lsn =
+          let after : pages_after lsn (rs_of key path w i (below w) meta at s) w.pages meta.page ≡ patched meta PAGE_COUNT_AT (field 4 (new + 1)) lsn =
           ap (after_records lsn (rs_of key path w i (below w) meta at s)) fresh.meta_is
           ∙ on_meta key (w.pages s.site.parent) (w.pages s.site.page) meta at lsn (four_apart key path w i (below w) meta at s) in
           let whole = meta_image.whole_body (ap has_body is_meta.kind) in
-          let done : Counts (patched meta COUNT_AT (field 4 (new + 1)) lsn) (new + 1) = counted meta (new + 1) lsn is_meta whole (omega arith) in
+          let done : Counts (patched meta PAGE_COUNT_AT (field 4 (new + 1)) lsn) (new + 1) = counted meta (new + 1) lsn is_meta whole (omega arith) in
           subst (λ (r : List Record). Counts (pages_after lsn r w.pages meta.page) (new + 1)) (sym (same w s))
           (subst (λ (o : Image). Counts o (new + 1)) (sym after) done);
     }
@@ -168,7 +169,7 @@ split_keeps key path i at meta inside place page_is image room is_meta meta_imag
     within w page c =
         let st = site key path w i (below w) (deep w) in
         let ar = around key path w i (below w) st in
-        let new : ℕ = count_of meta in
+        let new : ℕ = page_count meta in
         let parent_number : (page_on path i).page ≡ st.parent = ap (λ (o : Image). o.page) st.parent_is ∙ ar.parent_node.number in
         let page_number : (page_on path (i + 1)).page ≡ st.page = ap (λ (o : Image). o.page) st.page_is ∙ ar.page_node.number in
         let parent_in : Contains w.tree.nodes st.parent =
@@ -183,7 +184,7 @@ split_keeps key path i at meta inside place page_is image room is_meta meta_imag
           (inl (subst (Contains w.tree.nodes) (sym page_number) page_in), (inr (inl (here new [])), (inr (inr refl), tt))),
         ) c
 
-    setting : (w : IsWayTo key path) → w.pages meta.page ≡ meta → w.pages (count_of meta) ≡ unmade (count_of meta) → Setting key path w i (below w) meta at
+    setting : (w : IsWayTo key path) → w.pages meta.page ≡ meta → w.pages (page_count meta) ≡ unmade (page_count meta) → Setting key path w i (below w) meta at
     setting w m n =
         let st = site key path w i (below w) (deep w) in
         record {

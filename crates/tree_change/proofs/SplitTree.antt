@@ -6,6 +6,7 @@ use Rattle.std.specs.List.{AllByRecursion, IsDistinct}
 use Rattle.std.proofs.lemmas.List.{take-append-drop, drop_more, append_assoc, map-append, length-map, take_at, drop_at, get_or_at}
 use Rattle.std.proofs.lemmas.List.Elements.{filter-append}
 use Rattle.std.proofs.lemmas.Bool.Decides.{eqb_tells}
+use Rattle.page_image.specs.Meta.{IsMeta, page_count}
 use Rattle.page_image.specs.declared.kind.Kind.TheVariants.{Unmade, Meta, Leaf, Inner}
 use Rattle.page_image.specs.Image.{Image, unmade, is_inner, inserted, cut_from, linked}
 use Rattle.page_view.specs.Inner.{InnerItem, inner_bytes}
@@ -15,7 +16,7 @@ use Rattle.redo_record.specs.Effect.{after_records}
 use Rattle.bplus_tree.specs.Tree.{IsLeafPage, IsInnerPage, Parts, Stands, Tree, is_leaf, leaves_of, Linked}
 use Rattle.tree_change.specs.Way.{IsWayTo}
 use Rattle.tree_change.specs.Places.{not_greater}
-use Rattle.tree_change.specs.Splits.{IsSplitPlace, IsMeta, count_of, right_half, first_without_key, separator, entry_of, split_records}
+use Rattle.tree_change.specs.Splits.{IsSplitPlace, right_half, first_without_key, separator, entry_of, split_records}
 use Rattle.tree_change.specs.Effects.{pages_after, GrowsOn}
 use Rattle.tree_change.proofs.ListLaws.{all_front, all_back, all_join, all_weaker}
 use Rattle.tree_change.proofs.SortLaws.{all_filter}
@@ -58,34 +59,34 @@ pub record Setting (key : List ℕ) (path : List Image) (w : IsWayTo key path) (
   pub place : IsSplitPlace (w.pages site.page).items at
   pub is_meta : IsMeta meta
   pub meta_there : w.pages meta.page ≡ meta
-  pub new_there : w.pages (count_of meta) ≡ unmade (count_of meta)
-  pub new_bound : count_of meta ≤ 32767
+  pub new_there : w.pages (page_count meta) ≡ unmade (page_count meta)
+  pub new_bound : page_count meta ≤ 32767
 
 abbrev pub rs_of : (key : List ℕ) (path : List Image) (w : IsWayTo key path) (i l : ℕ) (meta : Image) (at : ℕ) → Setting key path w i l meta at → List Record
 rs_of key path w i l meta at s = split_records key (w.pages s.site.parent) (w.pages s.site.page) at meta
 
-pub kind_of_new : (key : List ℕ) (path : List Image) (w : IsWayTo key path) (i l : ℕ) (meta : Image) (at : ℕ) (s : Setting key path w i l meta at) → (w.pages (count_of meta)).kind ≡ Unmade
+pub kind_of_new : (key : List ℕ) (path : List Image) (w : IsWayTo key path) (i l : ℕ) (meta : Image) (at : ℕ) (s : Setting key path w i l meta at) → (w.pages (page_count meta)).kind ≡ Unmade
 kind_of_new key path w i l meta at s = ap (λ (im : Image). im.kind) s.new_there
 
 pub kind_of_meta : (key : List ℕ) (path : List Image) (w : IsWayTo key path) (i l : ℕ) (meta : Image) (at : ℕ) (s : Setting key path w i l meta at) → (w.pages meta.page).kind ≡ Meta
 kind_of_meta key path w i l meta at s = ap (λ (im : Image). im.kind) s.meta_there ∙ s.is_meta.kind
 
-pub new_not_meta : (key : List ℕ) (path : List Image) (w : IsWayTo key path) (i l : ℕ) (meta : Image) (at : ℕ) (s : Setting key path w i l meta at) → count_of meta ≢ meta.page
+pub new_not_meta : (key : List ℕ) (path : List Image) (w : IsWayTo key path) (i l : ℕ) (meta : Image) (at : ℕ) (s : Setting key path w i l meta at) → page_count meta ≢ meta.page
 new_not_meta key path w i l meta at s e =
     let h : Unmade ≡ Meta = sym (kind_of_new key path w i l meta at s) ∙ ap (λ (p : ℕ). (w.pages p).kind) e ∙ kind_of_meta key path w i l meta at s in
     cc
 
 pub four_apart : (key : List ℕ) (path : List Image) (w : IsWayTo key path) (i l : ℕ) (meta : Image) (at : ℕ) (s : Setting key path w i l meta at)
-    → Apart (w.pages s.site.parent).page (w.pages s.site.page).page (count_of meta) meta.page
+    → Apart (w.pages s.site.parent).page (w.pages s.site.page).page (page_count meta) meta.page
 four_apart key path w i l meta at s =
     let p = s.around.parent_node in
     let c = s.around.page_node in
-    let new = unmade_apart w.pages (count_of meta) in
+    let new = unmade_apart w.pages (page_count meta) in
     record {
       ab = λ e. s.around.apart (sym p.number ∙ e ∙ c.number);
-      ac = λ e. unmade_apart w.pages (count_of meta) s.site.parent (kind_of_new key path w i l meta at s) p (sym (sym p.number ∙ e));
+      ac = λ e. unmade_apart w.pages (page_count meta) s.site.parent (kind_of_new key path w i l meta at s) p (sym (sym p.number ∙ e));
       ad = λ e. meta_apart w.pages meta.page s.site.parent (kind_of_meta key path w i l meta at s) p (sym (sym p.number ∙ e));
-      bc = λ e. unmade_apart w.pages (count_of meta) s.site.page (kind_of_new key path w i l meta at s) c (sym (sym c.number ∙ e));
+      bc = λ e. unmade_apart w.pages (page_count meta) s.site.page (kind_of_new key path w i l meta at s) c (sym (sym c.number ∙ e));
       bd = λ e. meta_apart w.pages meta.page s.site.page (kind_of_meta key path w i l meta at s) c (sym (sym c.number ∙ e));
       cd = new_not_meta key path w i l meta at s;
     }
@@ -98,7 +99,7 @@ same_else key path w i l meta at lsn s q n np nc =
     (none_else key (w.pages s.site.parent) (w.pages s.site.page) meta at (w.pages q).page
     (λ e. np (sym (sym s.around.parent_node.number ∙ e ∙ n.number)))
     (λ e. nc (sym (sym s.around.page_node.number ∙ e ∙ n.number)))
-    (λ e. unmade_apart w.pages (count_of meta) q (kind_of_new key path w i l meta at s) n (e ∙ n.number))
+    (λ e. unmade_apart w.pages (page_count meta) q (kind_of_new key path w i l meta at s) n (e ∙ n.number))
     (λ e. meta_apart w.pages meta.page q (kind_of_meta key path w i l meta at s) n (e ∙ n.number)))
 
 pub same_list : (key : List ℕ) (path : List Image) (w : IsWayTo key path) (i l : ℕ) (meta : Image) (at lsn : ℕ) (s : Setting key path w i l meta at)
@@ -200,15 +201,15 @@ cut_linked im new at lsn om e = by_test (is_inner im.kind) refl
         )
 
 pub after_split : (key : List ℕ) (path : List Image) (w : IsWayTo key path) (i l : ℕ) (meta : Image) (at lsn : ℕ) (s : Setting key path w i l meta at)
-    → After (pages_after lsn (rs_of key path w i l meta at s) w.pages) (w.pages s.site.page) s.site.page (count_of meta) at
+    → After (pages_after lsn (rs_of key path w i l meta at s) w.pages) (w.pages s.site.page) s.site.page (page_count meta) at
 after_split key path w i l meta at lsn s =
     let others : ℕ → Image = pages_after lsn (rs_of key path w i l meta at s) w.pages in
     let parent = w.pages s.site.parent in
     let im : Image = w.pages s.site.page in
     let d = four_apart key path w i l meta at s in
-    let cut = cut_linked im (count_of meta) at lsn (others s.site.page) (on_page key parent im meta at lsn d) in
+    let cut = cut_linked im (page_count meta) at lsn (others s.site.page) (on_page key parent im meta at lsn d) in
     let m = on_new key parent im meta at lsn d in
-    let e : others (count_of meta) ≡ after_records lsn (rs_of key path w i l meta at s) (unmade (count_of meta)) = ap (after_records lsn (rs_of key path w i l meta at s)) s.new_there in
+    let e : others (page_count meta) ≡ after_records lsn (rs_of key path w i l meta at s) (unmade (page_count meta)) = ap (after_records lsn (rs_of key path w i l meta at s)) s.new_there in
     record {
       left_kind = cut.0;
       left_number = cut.1;
@@ -362,7 +363,7 @@ pub record Grown (key : List ℕ) (path : List Image) (w : IsWayTo key path) (i 
   pub deep_is : s.around.deep ≡ old_left ++ old_right
   pub short : length (separator (w.pages s.site.page) at) ≤ MAX_KEY_BYTES
   pub stands : Stands (pages_after lsn (rs_of key path w i l meta at s) w.pages) w.tree.level w.root None None w.items
-      ((s.site.spot.left ++ (s.site.parent ∷ (s.site.parts.left ++ (s.site.page ∷ old_left)))) ++ (count_of meta ∷ (old_right ++ (s.site.parts.right ++ s.site.spot.right))))
+      ((s.site.spot.left ++ (s.site.parent ∷ (s.site.parts.left ++ (s.site.page ∷ old_left)))) ++ (page_count meta ∷ (old_right ++ (s.site.parts.right ++ s.site.spot.right))))
 
 grown_nodes : (left : List ℕ) (p : ℕ) (fl : List ℕ) (c : ℕ) (ol : List ℕ) (n : ℕ) (or fr right : List ℕ)
     → left ++ ((p ∷ (fl ++ ((c ∷ (ol ++ (n ∷ or))) ++ fr))) ++ right) ≡ (left ++ (p ∷ (fl ++ (c ∷ ol)))) ++ (n ∷ (or ++ (fr ++ right)))
@@ -374,7 +375,7 @@ grown key path w i l meta at lsn s =
     let st = s.site in
     let ar = s.around in
     let f = st.parts in
-    let new : ℕ = count_of meta in
+    let new : ℕ = page_count meta in
     let sep : List ℕ = separator (w.pages st.page) at in
     let d = four_apart key path w i l meta at s in
     let a = after_split key path w i l meta at lsn s in
@@ -437,16 +438,16 @@ leaves-append pages xs ys = filter-append (λ q. is_leaf (pages q).kind) xs ys
 -- an inner page is split: the leaves stay
 linked_inner : (key : List ℕ) (path : List Image) (w : IsWayTo key path) (i l : ℕ) (meta : Image) (at lsn : ℕ) (s : Setting key path w i l meta at)
     → (w.pages s.site.page).kind ≡ Inner → (xs ys : List ℕ) → w.tree.nodes ≡ xs ++ ys
-    → Linked (pages_after lsn (rs_of key path w i l meta at s) w.pages) (leaves_of (pages_after lsn (rs_of key path w i l meta at s) w.pages) (xs ++ (count_of meta ∷ ys)))
+    → Linked (pages_after lsn (rs_of key path w i l meta at s) w.pages) (leaves_of (pages_after lsn (rs_of key path w i l meta at s) w.pages) (xs ++ (page_count meta ∷ ys)))
 linked_inner key path w i l meta at lsn s kind xs ys are =
     let others : ℕ → Image = pages_after lsn (rs_of key path w i l meta at s) w.pages in
     let a = after_split key path w i l meta at lsn s in
     let all : AllByRecursion (IsNode w.pages) (xs ++ ys) = subst (AllByRecursion (IsNode w.pages)) are s.around.all in
     let linked : Linked w.pages (leaves_of w.pages (xs ++ ys)) = subst (λ (n : List ℕ). Linked w.pages (leaves_of w.pages n)) are w.tree.linked in
-    let no_leaf : is_leaf (others (count_of meta)).kind ≡ false = ap is_leaf (a.right_kind ∙ kind) in
-    let same : leaves_of others (xs ++ (count_of meta ∷ ys)) ≡ leaves_of w.pages (xs ++ ys) =
-    leaves-append others xs (count_of meta ∷ ys)
-    ∙ ap (λ (n : List ℕ). leaves_of others xs ++ n) (dropped_leaf others (count_of meta) ys no_leaf)
+    let no_leaf : is_leaf (others (page_count meta)).kind ≡ false = ap is_leaf (a.right_kind ∙ kind) in
+    let same : leaves_of others (xs ++ (page_count meta ∷ ys)) ≡ leaves_of w.pages (xs ++ ys) =
+    leaves-append others xs (page_count meta ∷ ys)
+    ∙ ap (λ (n : List ℕ). leaves_of others xs ++ n) (dropped_leaf others (page_count meta) ys no_leaf)
     ∙ sym (leaves-append others xs ys)
     ∙ filter_same (λ q. is_leaf (others q).kind) (λ q. is_leaf (w.pages q).kind) (xs ++ ys) (all_kinds key path w i l meta at lsn s (xs ++ ys) all) in
     let nexts : SameNext w.pages others (xs ++ ys) =
@@ -457,11 +458,11 @@ linked_inner key path w i l meta at lsn s kind xs ys are =
 -- a leaf is split: the new leaf joins the others behind it
 linked_leaf : (key : List ℕ) (path : List Image) (w : IsWayTo key path) (i l : ℕ) (meta : Image) (at lsn : ℕ) (s : Setting key path w i l meta at)
     → (w.pages s.site.page).kind ≡ Leaf → (xs ys : List ℕ) → w.tree.nodes ≡ xs ++ (s.site.page ∷ ys) → Without s.site.page xs → Without s.site.page ys
-    → Linked (pages_after lsn (rs_of key path w i l meta at s) w.pages) (leaves_of (pages_after lsn (rs_of key path w i l meta at s) w.pages) (xs ++ (s.site.page ∷ (count_of meta ∷ ys))))
+    → Linked (pages_after lsn (rs_of key path w i l meta at s) w.pages) (leaves_of (pages_after lsn (rs_of key path w i l meta at s) w.pages) (xs ++ (s.site.page ∷ (page_count meta ∷ ys))))
 linked_leaf key path w i l meta at lsn s kind xs ys are wx wy =
     let others : ℕ → Image = pages_after lsn (rs_of key path w i l meta at s) w.pages in
     let page : ℕ = s.site.page in
-    let new : ℕ = count_of meta in
+    let new : ℕ = page_count meta in
     let a = after_split key path w i l meta at lsn s in
     let all : AllByRecursion (IsNode w.pages) (xs ++ (page ∷ ys)) = subst (AllByRecursion (IsNode w.pages)) are s.around.all in
     let nx = all_front (IsNode w.pages) xs (page ∷ ys) all in
@@ -509,7 +510,7 @@ nodes_before key path w i l meta at lsn s g =
 
 linked_after : (key : List ℕ) (path : List Image) (w : IsWayTo key path) (i l : ℕ) (meta : Image) (at lsn : ℕ) (s : Setting key path w i l meta at) (g : Grown key path w i l meta at lsn s)
     → Linked (pages_after lsn (rs_of key path w i l meta at s) w.pages) (leaves_of (pages_after lsn (rs_of key path w i l meta at s) w.pages)
-    ((s.site.spot.left ++ (s.site.parent ∷ (s.site.parts.left ++ (s.site.page ∷ g.old_left)))) ++ (count_of meta ∷ (g.old_right ++ (s.site.parts.right ++ s.site.spot.right)))))
+    ((s.site.spot.left ++ (s.site.parent ∷ (s.site.parts.left ++ (s.site.page ∷ g.old_left)))) ++ (page_count meta ∷ (g.old_right ++ (s.site.parts.right ++ s.site.spot.right)))))
 linked_after key path w i zero meta at lsn s g =
     let st = s.site in
     let ar = s.around in
@@ -522,10 +523,10 @@ linked_after key path w i zero meta at lsn s g =
     let before : w.tree.nodes ≡ (st.spot.left ++ (st.parent ∷ st.parts.left)) ++ (st.page ∷ (st.parts.right ++ st.spot.right)) =
     before0 ∙ ap (λ (n : List ℕ). X n g.old_right) empty.0 ∙ ap (λ (n : List ℕ). X [] n) empty.1
     ∙ leaf_nodes st.spot.left st.parent st.parts.left st.page st.parts.right st.spot.right in
-    let Z = λ (ol or : List ℕ). (st.spot.left ++ (st.parent ∷ (st.parts.left ++ (st.page ∷ ol)))) ++ (count_of meta ∷ (or ++ (st.parts.right ++ st.spot.right))) in
-    let now : Z g.old_left g.old_right ≡ (st.spot.left ++ (st.parent ∷ st.parts.left)) ++ (st.page ∷ (count_of meta ∷ (st.parts.right ++ st.spot.right))) =
+    let Z = λ (ol or : List ℕ). (st.spot.left ++ (st.parent ∷ (st.parts.left ++ (st.page ∷ ol)))) ++ (page_count meta ∷ (or ++ (st.parts.right ++ st.spot.right))) in
+    let now : Z g.old_left g.old_right ≡ (st.spot.left ++ (st.parent ∷ st.parts.left)) ++ (st.page ∷ (page_count meta ∷ (st.parts.right ++ st.spot.right))) =
     ap (λ (n : List ℕ). Z n g.old_right) empty.0 ∙ ap (λ (n : List ℕ). Z [] n) empty.1
-    ∙ leaf_nodes_new st.spot.left st.parent st.parts.left st.page (count_of meta) st.parts.right st.spot.right in
+    ∙ leaf_nodes_new st.spot.left st.parent st.parts.left st.page (page_count meta) st.parts.right st.spot.right in
     let C = λ (q : ℕ). q ≢ st.page in
     subst (λ (n : List ℕ). Linked others (leaves_of others n)) (sym now)
     (linked_leaf key path w i zero meta at lsn s child.0.kind (st.spot.left ++ (st.parent ∷ st.parts.left)) (st.parts.right ++ st.spot.right) before
@@ -539,7 +540,7 @@ linked_after key path w i (suc m) meta at lsn s g =
     (nodes_before key path w i (suc m) meta at lsn s g)
 
 pub split_tree : (key : List ℕ) (path : List Image) (w : IsWayTo key path) (i l : ℕ) (meta : Image) (at lsn : ℕ) (s : Setting key path w i l meta at)
-    → GrowsOn (pages_after lsn (rs_of key path w i l meta at s) w.pages) w.root w.items w.tree.nodes (count_of meta ∷ [])
+    → GrowsOn (pages_after lsn (rs_of key path w i l meta at s) w.pages) w.root w.items w.tree.nodes (page_count meta ∷ [])
 split_tree key path w i l meta at lsn s =
     let st = s.site in
     let g = grown key path w i l meta at lsn s in
@@ -547,17 +548,17 @@ split_tree key path w i l meta at lsn s =
     let ys : List ℕ = g.old_right ++ (st.parts.right ++ st.spot.right) in
     let before : w.tree.nodes ≡ xs ++ ys = nodes_before key path w i l meta at lsn s g in
     let all : AllByRecursion (IsNode w.pages) (xs ++ ys) = subst (AllByRecursion (IsNode w.pages)) before s.around.all in
-    let new : Without (count_of meta) (xs ++ ys) =
-    all_weaker (IsNode w.pages) (λ q. q ≢ count_of meta) (λ q n e. unmade_apart w.pages (count_of meta) q (kind_of_new key path w i l meta at s) n (sym e)) (xs ++ ys) all in
+    let new : Without (page_count meta) (xs ++ ys) =
+    all_weaker (IsNode w.pages) (λ q. q ≢ page_count meta) (λ q n e. unmade_apart w.pages (page_count meta) q (kind_of_new key path w i l meta at s) n (sym e)) (xs ++ ys) all in
     let tree : Tree (pages_after lsn (rs_of key path w i l meta at s) w.pages) w.root w.items = record {
       level = w.tree.level;
-      nodes = xs ++ (count_of meta ∷ ys);
+      nodes = xs ++ (page_count meta ∷ ys);
       low_enough = w.tree.low_enough;
       stands = g.stands;
       linked = linked_after key path w i l meta at lsn s g;
-      apart = distinct_more xs ys (count_of meta) (subst (IsDistinct nat_eq) before w.tree.apart) new;
+      apart = distinct_more xs ys (page_count meta) (subst (IsDistinct nat_eq) before w.tree.apart) new;
     } in
     record {
       tree = tree;
-      nodes_are = λ q. subst (λ (n : List ℕ). Contains (xs ++ (count_of meta ∷ ys)) q ↔ (Contains n q ⊎ Contains (count_of meta ∷ []) q)) (sym before) (one_more xs ys (count_of meta) q);
+      nodes_are = λ q. subst (λ (n : List ℕ). Contains (xs ++ (page_count meta ∷ ys)) q ↔ (Contains n q ⊎ Contains (page_count meta ∷ []) q)) (sym before) (one_more xs ys (page_count meta) q);
     }

@@ -1,5 +1,6 @@
 -- The plans that change one item of a leaf.
 use Rattle.std.specs.Prelude.{◌≡◌, ◌+◌, ℕ, List, [], ◌∷◌, ◌++◌}
+use Rattle.page_image.specs.Meta.{page_count}
 use Rattle.page_image.specs.declared.kind.Kind.TheVariants.{Leaf}
 use Rattle.page_image.specs.Image.{Image}
 use Rattle.page_view.specs.declared.leaf.LeafItem.{LeafItem}
@@ -9,7 +10,7 @@ use Rattle.redo_record.specs.declared.redo.Record.TheVariants.{Make, InsertSlot,
 use Rattle.redo_record.specs.declared.plans.Plan.{Plan}
 use Rattle.redo_record.specs.declared.plans.PlanKind.TheVariants.{Change}
 use Rattle.tree_change.specs.Places.{lesser, HasKey}
-use Rattle.tree_change.specs.Splits.{count_of, counts}
+use Rattle.tree_change.specs.Splits.{counts}
 
 -- a plan that changes one leaf
 abbrev pub change_of : ℕ → List Record → Plan
@@ -38,7 +39,7 @@ pub record IsPut (leaf : Image) (item : LeafItem) (plan : Plan) : Type 0 where
 -- the plan, and besides the page that the meta page counts next becomes an empty leaf, and is counted
 abbrev pub with_root : Plan → Image → Plan
 with_root plan meta =
-    let new = count_of meta in
+    let new = page_count meta in
     record {
       kind = Change;
       pages = plan.pages ++ new ∷ meta.page ∷ [];

@@ -9,7 +9,7 @@ use Rattle.redo_record.specs.Effect.{after_records, RecordsApply}
 use Rattle.redo_record.specs.Spelling.{IsAdmitted}
 use Rattle.bplus_tree.specs.Tree.{Tree}
 use Rattle.tree_change.specs.Places.{before, behind}
-use Rattle.tree_change.specs.Splits.{IsMeta, count_of}
+use Rattle.page_image.specs.Meta.{IsMeta, page_count}
 use Rattle.tree_change.specs.Way.{IsWayTo}
 
 -- the pages after the records of a group with this LSN
@@ -63,13 +63,13 @@ pub record IsFresh (pages : ℕ → Image) (meta : Image) (plan : Plan) : Type 0
 -- it is a meta page that counts so many pages
 pub record Counts (meta : Image) (pages : ℕ) : Type 0 where
   pub is_meta : IsMeta meta
-  pub count_is : count_of meta ≡ pages
+  pub count_is : page_count meta ≡ pages
 
 -- the pages that the plan makes, at least one, are the next ones that the meta page counts
 pub record MakesNext (meta : Image) (plan : Plan) : Type 0 where
   pub some : 1 ≤ length plan.made
-  pub next : AllByRecursion (λ page. (count_of meta ≤ page) × (page < count_of meta + length plan.made)) plan.made
-  pub bound : count_of meta + length plan.made ≤ MAX_PAGES
+  pub next : AllByRecursion (λ page. (page_count meta ≤ page) × (page < page_count meta + length plan.made)) plan.made
+  pub bound : page_count meta + length plan.made ≤ MAX_PAGES
 
 -- In each tree with the path, the plan's records apply in order to each page, and change only the plan's pages, which are pages of the tree,
 -- pages that the plan makes, and the meta page. After them the tree stands for the same items, on its pages and those that were made, and the meta page counts these too.
@@ -80,7 +80,7 @@ pub record Keeps (key : List ℕ) (path : List Image) (meta : Image) (plan : Pla
   pub made : MakesNext meta plan
   pub applies : (w : IsWayTo key path) → IsFresh w.pages meta plan → (lsn page : ℕ) → (w.pages page).page ≡ page → RecordsApply lsn plan.records (w.pages page)
   pub stands : (w : IsWayTo key path) → IsFresh w.pages meta plan → (lsn : ℕ) → GrowsOn (pages_after lsn plan.records w.pages) w.root w.items w.tree.nodes plan.made
-  pub counts : (w : IsWayTo key path) → IsFresh w.pages meta plan → (lsn : ℕ) → Counts (pages_after lsn plan.records w.pages meta.page) (count_of meta + length plan.made)
+  pub counts : (w : IsWayTo key path) → IsFresh w.pages meta plan → (lsn : ℕ) → Counts (pages_after lsn plan.records w.pages meta.page) (page_count meta + length plan.made)
 
 -- As `Carries`, and besides the page that the meta page counts next becomes an empty tree, and is counted.
 pub record Begins (key : List ℕ) (path : List Image) (meta : Image) (plan : Plan) (change : List (List ℕ) → List (List ℕ)) : Type 0 where
@@ -90,5 +90,5 @@ pub record Begins (key : List ℕ) (path : List Image) (meta : Image) (plan : Pl
   pub made : MakesNext meta plan
   pub applies : (w : IsWayTo key path) → IsFresh w.pages meta plan → (lsn page : ℕ) → (w.pages page).page ≡ page → RecordsApply lsn plan.records (w.pages page)
   pub stands : (w : IsWayTo key path) → IsFresh w.pages meta plan → (lsn : ℕ) → StandsOn (pages_after lsn plan.records w.pages) w.root (change w.items) w.tree.nodes w.tree.level
-  pub begins : (w : IsWayTo key path) → IsFresh w.pages meta plan → (lsn : ℕ) → StandsOn (pages_after lsn plan.records w.pages) (count_of meta) [] (count_of meta ∷ []) 0
-  pub counts : (w : IsWayTo key path) → IsFresh w.pages meta plan → (lsn : ℕ) → Counts (pages_after lsn plan.records w.pages meta.page) (count_of meta + length plan.made)
+  pub begins : (w : IsWayTo key path) → IsFresh w.pages meta plan → (lsn : ℕ) → StandsOn (pages_after lsn plan.records w.pages) (page_count meta) [] (page_count meta ∷ []) 0
+  pub counts : (w : IsWayTo key path) → IsFresh w.pages meta plan → (lsn : ℕ) → Counts (pages_after lsn plan.records w.pages meta.page) (page_count meta + length plan.made)

@@ -5,6 +5,7 @@ use Rattle.std.specs.List.{AllByRecursion}
 use Rattle.rm_base.specs.Fields.{field, number}
 use Rattle.page_image.specs.declared.kind.Kind.TheVariants.{Meta, Inner}
 use Rattle.page_image.specs.Image.{Image, is_inner, used}
+use Rattle.page_image.specs.Meta.{page_count}
 use Rattle.page_view.specs.declared.leaf.LeafItem.{LeafItem}
 use Rattle.page_view.specs.Inner.{inner_bytes}
 use Rattle.page_view.specs.Keys.{key_in}
@@ -13,7 +14,7 @@ use Rattle.redo_record.specs.declared.redo.Record.TheVariants.{Make, Patch, Inse
 use Rattle.redo_record.specs.declared.plans.Plan.{Plan}
 use Rattle.redo_record.specs.declared.plans.PlanKind.TheVariants.{Split}
 use Rattle.tree_change.specs.declared.halves.TheConstants.{HALF_BYTES}
-use Rattle.tree_change.specs.declared.counting.TheConstants.{COUNT_AT}
+use Rattle.page_image.specs.declared.meta.TheConstants.{PAGE_COUNT_AT}
 use Rattle.tree_change.specs.Places.{not_greater, page_on}
 use Rattle.tree_change.specs.Room.{lacks_room}
 
@@ -55,15 +56,6 @@ pub record IsHeavy (items : List (List ℕ)) : Type 0 where
   pub small : AllByRecursion IsSmall items
   pub enough : HALF_BYTES + MAX_RECORD_BYTES + 2 ≤ used items
 
--- the meta page is page 0
-pub record IsMeta (meta : Image) : Type 0 where
-  pub kind : meta.kind ≡ Meta
-  pub number : meta.page ≡ 0
-
--- the number of pages that a meta page counts
-abbrev pub count_of : Image → ℕ
-count_of meta = number 4 (drop 4 meta.body)
-
 -- an inner item with the empty key in place of its own
 abbrev pub without_key : List ℕ → List ℕ
 without_key item = 0 ∷ drop (1 + slice_index item 0) item
@@ -95,7 +87,7 @@ linked_to split page right = if is_inner split.kind then [] else Link page right
 
 -- the meta page counts so many pages
 abbrev pub counts : Image → ℕ → Record
-counts meta n = Patch meta.page COUNT_AT (field 4 n)
+counts meta n = Patch meta.page PAGE_COUNT_AT (field 4 n)
 
 -- an entry of an inner page
 abbrev pub entry_of : List ℕ → ℕ → List ℕ
@@ -113,7 +105,7 @@ made_right page at new =
 -- the right half moves to the page that the meta page counts next, and the parent gets an entry for it behind the one of the page
 abbrev pub split_records : List ℕ → Image → Image → ℕ → Image → List Record
 split_records key parent page at meta =
-    let new = count_of meta in
+    let new = page_count meta in
     made_right page at new
     ++ (linked_to page page.page new
     ++ (Cut page.page at
@@ -123,7 +115,7 @@ split_records key parent page at meta =
 
 abbrev pub split_plan : List ℕ → Image → Image → ℕ → Image → Plan
 split_plan key parent page at meta =
-    let new = count_of meta in
+    let new = page_count meta in
     split_of (parent.page ∷ page.page ∷ new ∷ meta.page ∷ []) (new ∷ []) (split_records key parent page at meta)
 
 -- the two pages of a root split are made, with the halves
@@ -145,14 +137,14 @@ made_root root at left right =
 -- both halves move to the two pages that the meta page counts next, and the root becomes an inner page over them
 abbrev pub root_split_records : Image → ℕ → Image → List Record
 root_split_records root at meta =
-    let left = count_of meta in
-    let right = count_of meta + 1 in
+    let left = page_count meta in
+    let right = page_count meta + 1 in
     made_halves root at left right ++ (linked_to root left right ++ (made_root root at left right ++ counts meta (right + 1) ∷ []))
 
 abbrev pub root_split_plan : Image → ℕ → Image → Plan
 root_split_plan root at meta =
-    let left = count_of meta in
-    let right = count_of meta + 1 in
+    let left = page_count meta in
+    let right = page_count meta + 1 in
     split_of (root.page ∷ left ∷ right ∷ meta.page ∷ []) (left ∷ right ∷ []) (root_split_records root at meta)
 
 -- the plan splits the first page below the root with too little room, at the split place

@@ -14,7 +14,6 @@ mod spelling;
 mod splitting;
 
 pub use changing::{plan_insert, plan_mark, plan_remove, plan_update};
-pub use counting::count_of;
 pub use making_room::plan_room;
 pub use putting::{plan_put, plan_take};
 pub use root_splitting::plan_root_split;

@@ -1,11 +1,12 @@
 //! The split that a change needs next.
 ghost use Rattle.std.specs.Prelude.{◌≡◌, ◌≤◌, ◌<◌, ◌+◌, ◌↔◌, true, IsNone, IsOk, IfOk, IfErr, IfSome};
+ghost use Rattle.page_image.specs.Meta.{IsMeta, page_count};
 ghost use Rattle.page_view.specs.Leaf.{IsLeaf};
 ghost use Rattle.tree_change.specs.Places.{page_on};
 ghost use Rattle.tree_change.specs.Room.{lacks_room};
 ghost use Rattle.tree_change.specs.Way.{IsWayTo};
 ghost use Rattle.tree_change.specs.Effects.{Keeps};
-ghost use Rattle.tree_change.specs.Splits.{count_of, HaveRoom, SpaceFor, IsMeta};
+ghost use Rattle.tree_change.specs.Splits.{HaveRoom, SpaceFor};
 
 use crate::places::root_of;
 use crate::root_splitting::plan_root_split;
@@ -27,7 +28,7 @@ fn split_of_root(
     requires item { IsLeaf item.now }
     requires full { lacks_room item.now (page_on path.now 0) ≡ true }
     requires meta { IsMeta meta.now }
-    ensures room { IfOk result (λ answer. IsOk answer ↔ (((page_on path.now 0).level < 8) × (count_of meta.now + 1 ≤ MAX_PAGE_ID))) }
+    ensures room { IfOk result (λ answer. IsOk answer ↔ (((page_on path.now 0).level < 8) × (page_count meta.now + 1 ≤ MAX_PAGE_ID))) }
     ensures no { IfOk result (λ answer. IfErr answer (λ no. no ≡ TreeNo.SpaceFull)) }
     ensures keeps { IfOk result (λ answer. IfOk answer (λ plan. Keeps item.now.key path.now meta.now plan)) }
 {
@@ -52,7 +53,7 @@ pub fn plan_room(
     requires meta { IsMeta meta.now }
     ensures room { IfOk result (λ split. IsNone split ↔ HaveRoom item.now path.now) }
     ensures space { IfOk result (λ split. IfSome split (λ answer. IsOk answer
-        ↔ SpaceFor (lacks_room item.now (page_on path.now 0)) (page_on path.now 0) (count_of meta.now))) }
+        ↔ SpaceFor (lacks_room item.now (page_on path.now 0)) (page_on path.now 0) (page_count meta.now))) }
     ensures no { IfOk result (λ split. IfSome split (λ answer. IfErr answer (λ no. no ≡ TreeNo.SpaceFull))) }
     ensures keeps { IfOk result (λ split. IfSome split (λ answer. IfOk answer (λ plan. Keeps item.now.key path.now meta.now plan))) }
 {

@@ -1,5 +1,6 @@
 //! Plans that split the root.
 ghost use Rattle.std.specs.Prelude.{◌≡◌, ◌≤◌, ◌<◌, ◌+◌, true, ℕ, [], ◌∷◌, ◌++◌, ◌↔◌, length, IsOk, OnOk, IfOk, IfErr};
+ghost use Rattle.page_image.specs.Meta.{IsMeta, page_count};
 ghost use Rattle.page_view.specs.Leaf.{IsLeaf};
 ghost use Rattle.redo_record.specs.declared.plans.Plan.{Plan};
 ghost use Rattle.tree_change.specs.Places.{page_on};
@@ -7,15 +8,15 @@ ghost use Rattle.tree_change.specs.Room.{lacks_room};
 ghost use Rattle.tree_change.specs.Pages.{IsTreePage};
 ghost use Rattle.tree_change.specs.Way.{IsWayTo};
 ghost use Rattle.tree_change.specs.Effects.{Keeps};
-ghost use Rattle.tree_change.specs.Splits.{count_of, root_split_plan, made_halves, made_root, IsHeavy, IsSplitPlace, IsRootSplit, IsMeta};
+ghost use Rattle.tree_change.specs.Splits.{root_split_plan, made_halves, made_root, IsHeavy, IsSplitPlace, IsRootSplit};
 
-use crate::counting::{count_of, push_count};
+use crate::counting::push_count;
 use crate::halves::{move_items, move_right_half, separator, split_place};
 use crate::places::root_of;
 use crate::room::keeps_rules;
 use crate::spelling::inner_item_bytes;
 use crate::splitting::{push_linked_to, split_of};
-use page_image::{Kind, Page};
+use page_image::{Kind, Page, page_count};
 use page_view::LeafItem;
 use redo_record::{Path, Plan, Record, Records, TreeNo};
 use rm_base::{MAX_PAGE_ID, PageId, WantOfMemory};
@@ -99,12 +100,12 @@ pub(crate) fn split_root(
     requires item { IsLeaf item.now }
     requires full { lacks_room item.now root.now ≡ true }
     requires meta { meta.now.kind ≡ Kind.Meta }
-    ensures room { IfOk result (λ answer. IsOk answer ↔ (count_of meta.now + 1 ≤ MAX_PAGE_ID)) }
+    ensures room { IfOk result (λ answer. IsOk answer ↔ (page_count meta.now + 1 ≤ MAX_PAGE_ID)) }
     ensures no { IfOk result (λ answer. IfErr answer (λ no. no ≡ TreeNo.SpaceFull)) }
     ensures plan { IfOk result (λ answer. IfOk answer (λ plan. (at : ℕ) × IsSplitPlace root.now.items at
         × (plan ≡ root_split_plan root.now at meta.now))) }
 {
-    let Some(left) = PageId::new(count_of(meta)) else {
+    let Some(left) = PageId::new(page_count(meta)) else {
         return Ok(Err(TreeNo::SpaceFull));
     };
     let Some(right) = PageId::new(left.number() + 1) else {
@@ -132,7 +133,7 @@ pub fn plan_root_split(
     requires full { lacks_room item.now (page_on path.now 0) ≡ true }
     requires low { (page_on path.now 0).level < 8 }
     requires meta { IsMeta meta.now }
-    ensures room { IfOk result (λ answer. IsOk answer ↔ (count_of meta.now + 1 ≤ MAX_PAGE_ID)) }
+    ensures room { IfOk result (λ answer. IsOk answer ↔ (page_count meta.now + 1 ≤ MAX_PAGE_ID)) }
     ensures no { IfOk result (λ answer. IfErr answer (λ no. no ≡ TreeNo.SpaceFull)) }
     ensures plan { IfOk result (λ answer. IfOk answer (λ plan. IsRootSplit path.now meta.now plan)) }
     ensures keeps { IfOk result (λ answer. IfOk answer (λ plan. Keeps item.now.key path.now meta.now plan)) }

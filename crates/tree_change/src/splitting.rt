@@ -1,5 +1,6 @@
 //! Plans that split a page below the root.
 ghost use Rattle.std.specs.Prelude.{◌≡◌, ◌≤◌, ◌<◌, ◌+◌, true, ℕ, [], ◌∷◌, ◌++◌, ◌↔◌, length, IsOk, OnOk, IfOk, IfErr, MatchOption};
+ghost use Rattle.page_image.specs.Meta.{IsMeta, page_count};
 ghost use Rattle.page_view.specs.Leaf.{IsLeaf};
 ghost use Rattle.redo_record.specs.declared.plans.Plan.{Plan};
 ghost use Rattle.tree_change.specs.Places.{page_on};
@@ -7,14 +8,14 @@ ghost use Rattle.tree_change.specs.Room.{lacks_room};
 ghost use Rattle.tree_change.specs.Pages.{HasChildren, IsTreePage};
 ghost use Rattle.tree_change.specs.Way.{IsWayTo};
 ghost use Rattle.tree_change.specs.Effects.{Keeps};
-ghost use Rattle.tree_change.specs.Splits.{count_of, inserts, right_half, linked_on, linked_to, split_plan, split_of, made_right, IsHeavy, IsSplitPlace, IsFirstFull, IsFirstFullOrNone, IsSplit, IsMeta};
+ghost use Rattle.tree_change.specs.Splits.{inserts, right_half, linked_on, linked_to, split_plan, split_of, made_right, IsHeavy, IsSplitPlace, IsFirstFull, IsFirstFullOrNone, IsSplit};
 
-use crate::counting::{count_of, push_count};
+use crate::counting::push_count;
 use crate::halves::{move_right_half, separator, split_place};
 use crate::places::place_behind;
 use crate::room::{keeps_rules, lacks_room};
 use crate::spelling::inner_item_bytes;
-use page_image::{Kind, Page};
+use page_image::{Kind, Page, page_count};
 use page_view::LeafItem;
 use redo_record::{Path, Plan, PlanKind, Record, Records, TreeNo};
 use rm_base::{MAX_PAGE_ID, PageId, PageList, WantOfMemory};
@@ -105,12 +106,12 @@ pub(crate) fn split_below(
     requires item { IsLeaf item.now }
     requires full { lacks_room item.now page.now ≡ true }
     requires meta { meta.now.kind ≡ Kind.Meta }
-    ensures room { IfOk result (λ answer. IsOk answer ↔ (count_of meta.now ≤ MAX_PAGE_ID)) }
+    ensures room { IfOk result (λ answer. IsOk answer ↔ (page_count meta.now ≤ MAX_PAGE_ID)) }
     ensures no { IfOk result (λ answer. IfErr answer (λ no. no ≡ TreeNo.SpaceFull)) }
     ensures plan { IfOk result (λ answer. IfOk answer (λ plan. (at : ℕ) × IsSplitPlace page.now.items at
         × (plan ≡ split_plan item.now.key parent.now page.now at meta.now))) }
 {
-    let Some(new) = PageId::new(count_of(meta)) else {
+    let Some(new) = PageId::new(page_count(meta)) else {
         return Ok(Err(TreeNo::SpaceFull));
     };
     let at = split_place(page);
@@ -168,7 +169,7 @@ pub fn plan_split(
     requires item { IsLeaf item.now }
     requires full { (above : ℕ) × IsFirstFull item.now path.now (above + 1) }
     requires meta { IsMeta meta.now }
-    ensures room { IfOk result (λ answer. IsOk answer ↔ (count_of meta.now ≤ MAX_PAGE_ID)) }
+    ensures room { IfOk result (λ answer. IsOk answer ↔ (page_count meta.now ≤ MAX_PAGE_ID)) }
     ensures no { IfOk result (λ answer. IfErr answer (λ no. no ≡ TreeNo.SpaceFull)) }
     ensures plan { IfOk result (λ answer. IfOk answer (λ plan. IsSplit item.now path.now meta.now plan)) }
     ensures keeps { IfOk result (λ answer. IfOk answer (λ plan. Keeps item.now.key path.now meta.now plan)) }

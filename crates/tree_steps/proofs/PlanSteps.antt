@@ -5,6 +5,7 @@ use Rattle.std.specs.List.{AllByRecursion}
 use Rattle.std.specs.declared.cmp.Ordering.{Ordering}
 use Rattle.std.specs.declared.cmp.Ordering.TheVariants.{Less, Equal, Greater}
 use Rattle.std.proofs.lemmas.Option.{same_Some, slice_get_within}
+use Rattle.page_image.specs.Meta.{IsMeta, page_count}
 use Rattle.page_image.specs.Image.{Image}
 use Rattle.page_image.specs.Rules.{IsImage}
 use Rattle.page_view.specs.declared.leaf.LeafItem.{LeafItem}
@@ -13,7 +14,7 @@ use Rattle.redo_record.specs.declared.plans.Plan.{Plan}
 use Rattle.tree_change.specs.Way.{IsWayTo}
 use Rattle.tree_change.specs.Places.{HasKey, page_on, leaf_on}
 use Rattle.tree_change.specs.Changes.{insert_plan, update_plan, remove_plan, IsPut, with_root}
-use Rattle.tree_change.specs.Splits.{IsMeta, IsSplit, IsRootSplit, count_of}
+use Rattle.tree_change.specs.Splits.{IsSplit, IsRootSplit}
 use Rattle.tree_change.specs.Effects.{pages_after, IsFresh}
 use Rattle.tree_change.proofs.PlaceLaws.{same_key, equal_from}
 use Rattle.tree_change.proofs.ListLaws.{all_join}
@@ -105,7 +106,7 @@ begin_keeps key path w item put is meta is_meta fresh lsn =
     (all_join (FitsLeaf w.pages (leaf_on path).page) put.records _
     (put_fits w.pages (leaf_on path) item put is) (inr new, (inr counted, tt)))
   where
-    new : is_tree_kind (w.pages (count_of meta)).kind ≡ false
+    new : is_tree_kind (w.pages (page_count meta)).kind ≡ false
     new = ap (λ (im : Image). is_tree_kind im.kind) fresh.unmade.0
 
     counted : is_tree_kind (w.pages meta.page).kind ≡ false
@@ -114,7 +115,7 @@ begin_keeps key path w item put is meta is_meta fresh lsn =
 -- ---- splits
 
 pub split_splits : (item : LeafItem) (path : List Image) (meta : Image) (plan : Plan) → IsMeta meta
-    → IsSplit item path meta plan → count_of meta ≤ 32767
+    → IsSplit item path meta plan → page_count meta ≤ 32767
     → (w : IsWayTo item.key path) → IsFresh w.pages meta plan → (lsn : ℕ)
     → Splits w.pages (pages_after lsn plan.records w.pages) w.tree.nodes lsn
 split_splits item path meta plan is_meta is bound w fresh lsn =
@@ -124,7 +125,7 @@ split_splits item path meta plan is_meta is bound w fresh lsn =
     (subst (IsFresh w.pages meta) is.plan_is fresh) lsn)
 
 pub root_split_splits : (key : Key) (path : List Image) (meta : Image) (plan : Plan) → IsMeta meta
-    → IsRootSplit path meta plan → count_of meta + 1 ≤ 32767
+    → IsRootSplit path meta plan → page_count meta + 1 ≤ 32767
     → IsImage (page_on path 0) → (page_on path 0).level < 8
     → (w : IsWayTo key path) → IsFresh w.pages meta plan → (lsn : ℕ)
     → RootSplits w.pages (pages_after lsn plan.records w.pages) w.root w.tree.nodes lsn

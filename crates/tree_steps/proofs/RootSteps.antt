@@ -1,5 +1,6 @@
 -- A split of the root is a step.
 use Rattle.std.proofs.Common.{◌≡◌, ◌<◌, ◌≤◌, ◌+◌, ℕ, zero, suc, List, [], ◌∷◌, None, refl, sym, ap, subst, ◌∙◌, arith}
+use Rattle.page_image.specs.Meta.{IsMeta, page_count}
 use Rattle.page_image.specs.Image.{Image, LevelFits}
 use Rattle.page_image.specs.Rules.{IsImage}
 use Rattle.page_image.specs.declared.kind.Kind.{Kind}
@@ -14,7 +15,7 @@ use Rattle.tree_change.proofs.SplitTree.{unmade_apart, meta_apart}
 use Rattle.tree_change.proofs.WayLaws.{at}
 use Rattle.tree_change.specs.Effects.{pages_after, IsFresh}
 use Rattle.tree_change.specs.Places.{page_on}
-use Rattle.tree_change.specs.Splits.{IsMeta, IsSplitPlace, count_of, separator, root_split_records, root_split_plan}
+use Rattle.tree_change.specs.Splits.{IsSplitPlace, separator, root_split_records, root_split_plan}
 use Rattle.tree_change.specs.Way.{IsWayTo}
 use Rattle.tree_timeline.specs.Ranges.{height}
 use Rattle.tree_timeline.specs.Steps.{RootSplits}
@@ -41,8 +42,8 @@ root_splits_at : (key : Key) (path : List Image) (w : IsWayTo key path) (meta : 
 root_splits_at key path w meta place lsn s =
     let others : Pages = pages_after lsn (root_rs key path w meta place) w.pages in
     let im : Image = w.pages w.root in
-    let left : ℕ = count_of meta in
-    let right : ℕ = count_of meta + 1 in
+    let left : ℕ = page_count meta in
+    let right : ℕ = page_count meta + 1 in
     let sep : Key = separator im place in
     let b = below key path w in
     let h = root_halves key path w meta place lsn s b in
@@ -91,7 +92,7 @@ root_splits_at key path w meta place lsn s =
 
 pub root_split_step : (key : Key) (path : List Image) (at : ℕ) (meta : Image)
     → IsSplitPlace (page_on path 0).items at → IsImage (page_on path 0)
-    → (page_on path 0).level < 8 → IsMeta meta → count_of meta + 1 ≤ 32767
+    → (page_on path 0).level < 8 → IsMeta meta → page_count meta + 1 ≤ 32767
     → (w : IsWayTo key path) → IsFresh w.pages meta (root_split_plan (page_on path 0) at meta)
     → (lsn : ℕ)
     → RootSplits w.pages

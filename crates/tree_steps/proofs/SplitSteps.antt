@@ -1,6 +1,7 @@
 -- A split below the root is a step.
 use Rattle.std.proofs.Common.{◌≡◌, ◌<◌, ◌≤◌, ◌+◌, ◌-◌, ℕ, suc, List, ◌∷◌, ◌++◌, length, map, sym, ap, subst, ◌∙◌, arith}
 use Rattle.std.specs.Prelude.{Contains}
+use Rattle.page_image.specs.Meta.{IsMeta, page_count}
 use Rattle.page_image.specs.Image.{Image, inserted}
 use Rattle.page_view.specs.Inner.{InnerItem, inner_bytes, IsInner}
 use Rattle.redo_record.specs.declared.redo.Record.{Record}
@@ -14,7 +15,7 @@ use Rattle.tree_change.proofs.SplitTree.{Setting, rs_of, four_apart, same_else, 
 use Rattle.tree_change.proofs.WayLaws.{path_length, at}
 use Rattle.tree_change.specs.Effects.{pages_after, IsFresh}
 use Rattle.tree_change.specs.Places.{page_on, not_greater}
-use Rattle.tree_change.specs.Splits.{IsMeta, IsSplitPlace, count_of, separator, entry_of, split_records, split_plan}
+use Rattle.tree_change.specs.Splits.{IsSplitPlace, separator, entry_of, split_records, split_plan}
 use Rattle.tree_change.specs.Way.{IsWayTo}
 use Rattle.tree_timeline.specs.Steps.{Splits}
 use Rattle.tree_timeline.specs.Types.{Key, Pages}
@@ -30,7 +31,7 @@ splits_at key path w i l meta at lsn s =
     let st = s.site in
     let im : Image = w.pages st.page in
     let parent : Image = w.pages st.parent in
-    let new : ℕ = count_of meta in
+    let new : ℕ = page_count meta in
     let sep : Key = separator im at in
     let d = four_apart key path w i l meta at s in
     let a = after_split key path w i l meta at lsn s in
@@ -88,7 +89,7 @@ splits_at key path w i l meta at lsn s =
 
 pub split_step : (key : Key) (path : List Image) (i at : ℕ) (meta : Image) → i + 1 < length path
     → IsSplitPlace (page_on path (i + 1)).items at → IsMeta meta
-    → count_of meta ≤ 32767 → (w : IsWayTo key path)
+    → page_count meta ≤ 32767 → (w : IsWayTo key path)
     → IsFresh w.pages meta (split_plan key (page_on path i) (page_on path (i + 1)) at meta)
     → (lsn : ℕ)
     → Splits w.pages

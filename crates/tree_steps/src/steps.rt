@@ -1,6 +1,7 @@
 //! The groups of a log are steps of a tree.
 ghost use Rattle.std.specs.Prelude.{◌≡◌, ◌≢◌, ◌+◌, ℕ, suc, List, ◌∷◌, ◌++◌, length, Contains, ◌≤◌, ◌<◌};
 ghost use Rattle.std.specs.List.{AllByRecursion};
+ghost use Rattle.page_image.specs.Meta.{IsMeta, page_count};
 ghost use Rattle.page_image.specs.Image.{Image};
 ghost use Rattle.page_image.specs.Rules.{IsImage};
 ghost use Rattle.page_view.specs.declared.leaf.LeafItem.{LeafItem};
@@ -13,7 +14,7 @@ ghost use Rattle.tree_change.specs.Way.{IsWayTo};
 ghost use Rattle.tree_change.specs.Places.{leaf_on, page_on};
 ghost use Rattle.tree_change.specs.Effects.{pages_after, TouchesOnly, IsFresh};
 ghost use Rattle.tree_change.specs.Changes.{insert_plan, update_plan, remove_plan, IsPut, with_root};
-ghost use Rattle.tree_change.specs.Splits.{IsMeta, IsSplit, IsRootSplit, count_of};
+ghost use Rattle.tree_change.specs.Splits.{IsSplit, IsRootSplit};
 ghost use Rattle.tree_timeline.specs.Types.{Key, Items, Pages, ItemsAt};
 ghost use Rattle.tree_timeline.specs.Steps.{KeepsShape, Step, Splits, RootSplits};
 ghost use Rattle.tree_timeline.specs.Timeline.{Timeline};
@@ -69,13 +70,13 @@ pub fn step_laws()
 
     // A split of a page below the root is one, whichever change needs it: also the undoing of one.
     ensures split { (item : LeafItem) (path : List Image) (meta : Image) (plan : Plan) → IsMeta meta
-        → IsSplit item path meta plan → count_of meta ≤ MAX_PAGE_ID
+        → IsSplit item path meta plan → page_count meta ≤ MAX_PAGE_ID
         → (w : IsWayTo item.key path) → IsFresh w.pages meta plan → (lsn : ℕ)
         → Splits w.pages (pages_after lsn plan.records w.pages) w.tree.nodes lsn }
 
     // So is a split of the root.
     ensures root_split { (key : Key) (path : List Image) (meta : Image) (plan : Plan) → IsMeta meta
-        → IsRootSplit path meta plan → count_of meta + 1 ≤ MAX_PAGE_ID
+        → IsRootSplit path meta plan → page_count meta + 1 ≤ MAX_PAGE_ID
         → IsImage (page_on path 0) → (page_on path 0).level < 8
         → (w : IsWayTo key path) → IsFresh w.pages meta plan → (lsn : ℕ)
         → RootSplits w.pages (pages_after lsn plan.records w.pages) w.root w.tree.nodes lsn }

@@ -7,7 +7,7 @@ use Rattle.redo_record.specs.declared.plans.Plan.{Plan}
 use Rattle.redo_record.specs.Effect.{RecordsApply}
 use Rattle.page_store.specs.Stored.{Stored, pages_of, with_group, next_lsn}
 use Rattle.page_store.proofs.StoredLaws.{after_group}
-use Rattle.tree_change.specs.Splits.{count_of}
+use Rattle.page_image.specs.Meta.{page_count}
 use Rattle.tree_change.specs.Effects.{pages_after, Carries, Keeps, Begins}
 use Rattle.tree_store.specs.Forest.{Forest, with_tree, IsWayIn}
 use Rattle.tree_store.proofs.ForestLaws.{way_to, is_fresh, carried, kept, begun, count_after, with_itself}
@@ -55,18 +55,18 @@ ran_kept s t roots items f root c key path v plan k e =
     subst (λ (ps : ℕ → Image). Forest ps roots items) (sym (ap pages_of e ∙ ran s plan.records)) (kept (pages_of s) roots items f root c key path v plan k (next_lsn s))
 
 pub ran_more : (s t : Stored) (roots : List ℕ) (items : ℕ → List (List ℕ)) (f : Forest (pages_of s) roots items) (root : ℕ) (c : Contains roots root) (key : List ℕ) (path : List Image)
-    → IsWayIn (pages_of s) root key path → (plan : Plan) → Keeps key path (pages_of s 0) plan → t ≡ with_group s plan.records → count_of (pages_of s 0) < count_of (pages_of t 0)
+    → IsWayIn (pages_of s) root key path → (plan : Plan) → Keeps key path (pages_of s 0) plan → t ≡ with_group s plan.records → page_count (pages_of s 0) < page_count (pages_of t 0)
 ran_more s t roots items f root c key path v plan k e =
-    let same = ap (λ (ps : ℕ → Image). count_of (ps 0)) (ap pages_of e ∙ ran s plan.records) in
+    let same = ap (λ (ps : ℕ → Image). page_count (ps 0)) (ap pages_of e ∙ ran s plan.records) in
     let after = count_after (pages_of s) roots items f root c key path v plan k (next_lsn s) in
     let some = k.made.some in
     omega (arith, same, after, some)
 
 pub ran_begun : (s t : Stored) (roots : List ℕ) (items : ℕ → List (List ℕ)) (f : Forest (pages_of s) roots items) (root : ℕ) (c : Contains roots root) (key : List ℕ) (path : List Image)
     → IsWayIn (pages_of s) root key path → (plan : Plan) (change : List (List ℕ) → List (List ℕ)) → Begins key path (pages_of s 0) plan change → t ≡ with_group s plan.records
-    → Forest (pages_of t) (roots ++ count_of (pages_of s 0) ∷ []) (with_tree (with_tree items root (change (items root))) (count_of (pages_of s 0)) [])
+    → Forest (pages_of t) (roots ++ page_count (pages_of s 0) ∷ []) (with_tree (with_tree items root (change (items root))) (page_count (pages_of s 0)) [])
 ran_begun s t roots items f root c key path v plan change k e =
-    subst (λ (ps : ℕ → Image). Forest ps (roots ++ count_of (pages_of s 0) ∷ []) (with_tree (with_tree items root (change (items root))) (count_of (pages_of s 0)) []))
+    subst (λ (ps : ℕ → Image). Forest ps (roots ++ page_count (pages_of s 0) ∷ []) (with_tree (with_tree items root (change (items root))) (page_count (pages_of s 0)) []))
     (sym (ap pages_of e ∙ ran s plan.records)) (begun (pages_of s) roots items f root c key path v plan change k (next_lsn s))
 
 -- where no item has the key, the tree without it is the tree

@@ -5,7 +5,7 @@ use Rattle.page_store.specs.Stored.{pages_of}
 use Rattle.page_store.specs.Opening.{opened}
 use Rattle.page_store.proofs.StoredLaws.{page_number}
 use Rattle.page_store.proofs.OpeningLaws.{opened_root, opened_meta, opened_count, opened_unmade}
-use Rattle.tree_change.specs.Splits.{count_of}
+use Rattle.page_image.specs.Meta.{page_count}
 use Rattle.tree_change.proofs.MemberLaws.{member_has}
 use Rattle.tree_change.proofs.BeginLaws.{empty_tree}
 use Rattle.tree_store.specs.Forest.{Owns, Forest}
@@ -15,7 +15,7 @@ opened_owns = record { tree = (empty_tree (pages_of opened) CATALOG_ROOT_PAGE_ID
 
 pub opened_forest : Forest (pages_of opened) (CATALOG_ROOT_PAGE_ID ∷ []) (λ root. [])
 opened_forest =
-    let count : count_of (pages_of opened 0) ≡ FIRST_FREE_PAGE_ID = opened_count in
+    let count : page_count (pages_of opened 0) ≡ FIRST_FREE_PAGE_ID = opened_count in
     record {
       meta = record { kind = opened_meta; number = page_number opened 0 };
       low = omega (arith, count);

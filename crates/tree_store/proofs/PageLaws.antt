@@ -4,7 +4,7 @@ use Rattle.std.specs.Prelude.{MatchOption}
 use Rattle.page_image.specs.declared.kind.Kind.TheVariants.{Unmade, Meta, Leaf, Inner}
 use Rattle.page_image.specs.Image.{Image, unmade}
 use Rattle.bplus_tree.specs.Walk.{IsToRead}
-use Rattle.tree_change.specs.Splits.{IsMeta}
+use Rattle.page_image.specs.Meta.{IsMeta}
 
 pub read_made : (im : Image) (p : ℕ) → IsToRead im → im ≡ unmade p → ⊥
 read_made im p (inl leaf) e = let h : Leaf ≡ Unmade = sym leaf.kind ∙ ap (λ (o : Image). o.kind) e in cc

@@ -4,6 +4,7 @@ use Rattle.std.specs.Prelude.{◌⊎◌}
 use Rattle.std.proofs.lemmas.List.{append_assoc, append-nil, map-append}
 use Rattle.std.proofs.lemmas.Bool.{cases_lt}
 use Rattle.std.proofs.lemmas.Bool.Decides.{nat_tests}
+use Rattle.page_image.specs.Meta.{page_count}
 use Rattle.page_image.specs.declared.kind.Kind.TheVariants as kind
 use Rattle.page_image.specs.Image.{Image, is_inner}
 use Rattle.page_view.specs.declared.leaf.LeafItem.{LeafItem}
@@ -14,7 +15,7 @@ use Rattle.bplus_tree.specs.Found.{FindsLeaf}
 use Rattle.tree_change.specs.Way.{IsWayTo}
 use Rattle.tree_change.specs.Places.{page_on, leaf_on}
 use Rattle.tree_change.specs.Room.{size_of, room_for, lacks_room}
-use Rattle.tree_change.specs.Splits.{HaveRoom, SpaceFor, count_of}
+use Rattle.tree_change.specs.Splits.{HaveRoom, SpaceFor}
 use Rattle.tree_change.proofs.WayLaws.{leaf_rows, some_pages}
 use Rattle.tree_change.proofs.RootTree.{root_is}
 use Rattle.tree_store.specs.Forest.{IsWayIn, IsFull}
@@ -107,15 +108,15 @@ no_space true root count h =
 no_space false root count h = elim (cases_lt count 32768) [ inl less ↦ absurd (h (omega arith)) | inr more ↦ inl (omega arith) ]
 
 pub full_from : (pages : ℕ → Image) (item : LeafItem) (key : List ℕ) (path : List Image) (w : IsWayTo key path) (meta : Image) → w.pages ≡ pages → meta ≡ pages 0
-    → ¬ SpaceFor (lacks_room item (page_on path 0)) (page_on path 0) (count_of meta) → IsFull pages w.root
+    → ¬ SpaceFor (lacks_room item (page_on path 0)) (page_on path 0) (page_count meta) → IsFull pages w.root
 full_from pages item key path w meta same e h =
     let root = root_is key path w ∙ ap (λ (ps : ℕ → Image). ps w.root) same in
     let level = ap (λ (o : Image). o.level) root in
-    let count = ap count_of e in
-    let full = no_space (lacks_room item (page_on path 0)) (page_on path 0) (count_of meta) h in
+    let count = ap page_count e in
+    let full = no_space (lacks_room item (page_on path 0)) (page_on path 0) (page_count meta) h in
     moved full level count
   where
-    moved : (32768 ≤ count_of meta + 1) ⊎ (8 ≤ (page_on path 0).level) → (page_on path 0).level ≡ (pages w.root).level → count_of meta ≡ count_of (pages 0) → IsFull pages w.root
+    moved : (32768 ≤ page_count meta + 1) ⊎ (8 ≤ (page_on path 0).level) → (page_on path 0).level ≡ (pages w.root).level → page_count meta ≡ page_count (pages 0) → IsFull pages w.root
     moved (inl few) level count = inl (omega arith)
     moved (inr high) level count = inr (omega arith)
 

@@ -6,7 +6,7 @@ use Rattle.page_view.specs.declared.leaf.LeafItem.{LeafItem}
 use Rattle.bplus_tree.specs.Tree.{Tree, Way}
 use Rattle.tree_change.specs.Places.{leaf_on}
 use Rattle.tree_change.specs.Room.{size_of, room_for}
-use Rattle.tree_change.specs.Splits.{IsMeta, count_of}
+use Rattle.page_image.specs.Meta.{IsMeta, page_count}
 
 -- a tree that stands for the items, each page of which belongs to it
 pub record Owns (pages : ℕ → Image) (owner : ℕ → ℕ) (root : ℕ) (items : List (List ℕ)) : Type 0 where
@@ -17,9 +17,9 @@ pub record Owns (pages : ℕ → Image) (owner : ℕ → ℕ) (root : ℕ) (item
 -- belongs to two trees: each has one root that owns it.
 pub record Forest (pages : ℕ → Image) (roots : List ℕ) (items : ℕ → List (List ℕ)) : Type 0 where
   pub meta : IsMeta (pages 0)
-  pub low : FIRST_FREE_PAGE_ID ≤ count_of (pages 0)
-  pub high : count_of (pages 0) ≤ MAX_PAGES
-  pub free : (page : ℕ) → count_of (pages 0) ≤ page → pages page ≡ unmade page
+  pub low : FIRST_FREE_PAGE_ID ≤ page_count (pages 0)
+  pub high : page_count (pages 0) ≤ MAX_PAGES
+  pub free : (page : ℕ) → page_count (pages 0) ≤ page → pages page ≡ unmade page
   pub numbered : (page : ℕ) → (pages page).page ≡ page
   pub owner : ℕ → ℕ
   pub trees : (root : ℕ) → Contains roots root → Owns pages owner root (items root)
@@ -30,7 +30,7 @@ IsRoot pages root = (roots : List ℕ) × (items : ℕ → List (List ℕ)) × F
 
 -- at most one page is left, or the root is as high as there are levels
 abbrev pub IsFull : (ℕ → Image) → ℕ → Type 0
-IsFull pages root = (MAX_PAGES ≤ count_of (pages 0) + 1) ⊎ (MAX_TREE_LEVEL ≤ (pages root).level)
+IsFull pages root = (MAX_PAGES ≤ page_count (pages 0) + 1) ⊎ (MAX_TREE_LEVEL ≤ (pages root).level)
 
 -- the items of the trees, where the one at the root has new ones
 abbrev pub with_tree : (ℕ → List (List ℕ)) → ℕ → List (List ℕ) → ℕ → List (List ℕ)

@@ -3,7 +3,7 @@ ghost use Rattle.std.specs.Prelude.{◌≡◌, ◌≤◌, ◌<◌, ◌++◌, ◌
 ghost use Rattle.redo_record.specs.Effect.{RecordsApply};
 ghost use Rattle.page_view.specs.Leaf.{IsLeaf, leaf_bytes};
 ghost use Rattle.page_store.specs.Stored.{pages_of, with_group};
-ghost use Rattle.tree_change.specs.Splits.{count_of};
+ghost use Rattle.page_image.specs.Meta.{page_count};
 ghost use Rattle.tree_change.specs.Effects.{MakeGroup, with_item, without_item};
 ghost use Rattle.tree_store.specs.Forest.{Forest, IsRoot, IsFull, HasRoom, with_tree};
 
@@ -11,7 +11,7 @@ use crate::finding::{meta_page, way};
 use page_store::PageStore;
 use page_view::LeafItem;
 use redo_record::{Path, Plan, TreeNo};
-use rm_base::{Bytes, Items, PageId, TrxId, UndoPtr, WantOfMemory, MAX_PAGE_ID};
+use rm_base::{Bytes, Items, MAX_PAGE_ID, PageId, TrxId, UndoPtr, WantOfMemory};
 use std::alloc::Global;
 use tree_change::{plan_put, plan_room, plan_take, plan_with_root};
 
@@ -38,7 +38,7 @@ fn split_or_way(
     ensures forest { (roots : List ℕ) (items : ℕ → List (List ℕ)) → Forest (pages_of store.old) roots items → Contains roots root
         → OnOk result (Forest (pages_of store.new) roots items) }
     ensures way { IfOk result (λ answer. IfOk answer (λ found. IfSome found (HasRoom (pages_of store.new) root item.now))) }
-    ensures more { IfOk result (λ answer. IfOk answer (λ found. IsNone found → count_of (pages_of store.old 0) < count_of (pages_of store.new 0))) }
+    ensures more { IfOk result (λ answer. IfOk answer (λ found. IsNone found → page_count (pages_of store.old 0) < page_count (pages_of store.new 0))) }
     ensures no { IfOk result (λ answer. IfErr answer (λ no. no ≡ TreeNo.SpaceFull)) }
     ensures full { IfOk result (λ answer. OnErr answer (IsFull (pages_of store.new) root)) }
     ensures kept { store.new.kept ≡ store.old.kept }
@@ -203,9 +203,9 @@ pub fn put_with_tree(
     requires forest { IsRoot (pages_of store.old) root }
     requires item { IsLeaf item.now }
     requires room { HasRoom (pages_of store.old) root item.now path.now }
-    requires next { count_of (pages_of store.old 0) ≤ MAX_PAGE_ID }
+    requires next { page_count (pages_of store.old 0) ≤ MAX_PAGE_ID }
     ensures ok { (roots : List ℕ) (items : ℕ → List (List ℕ)) → Forest (pages_of store.old) roots items → Contains roots root
-        → let new = count_of (pages_of store.old 0) in
+        → let new = page_count (pages_of store.old 0) in
         OnOk result (Forest (pages_of store.new) (roots ++ new ∷ []) (with_tree (with_tree items root (with_item item.now.key (leaf_bytes item.now) (items root))) new [])) }
     ensures kept { store.new.kept ≡ store.old.kept }
 {

@@ -1,19 +1,18 @@
 //! The way to a key, and the leaves of a range of keys.
 ghost use Rattle.std.specs.Prelude.{◌≡◌, ◌≤◌, ℕ, List, Contains, IfOk, OnOk, SomeIff};
 ghost use Rattle.page_store.specs.Stored.{pages_of};
-ghost use Rattle.tree_change.specs.Splits.{IsMeta};
-ghost use Rattle.tree_change.specs.Splits as splits;
+ghost use Rattle.page_image.specs.Meta as counters;
+ghost use Rattle.page_image.specs.Meta.{IsMeta};
 ghost use Rattle.tree_store.specs.Forest.{Forest, IsRoot, IsWayIn};
 ghost use Rattle.tree_store.specs.Found.{HoldsRange};
 ghost use Rattle.tree_store.specs.Found as spec;
 
 use bplus_tree::{Descent, LeafWalk, Want, search_laws};
-use page_image::Page;
+use page_image::{Page, page_count};
 use page_store::PageStore;
 use redo_record::Path;
-use rm_base::{Bytes, Duplicate, Items, KeyRange, PageId, WantOfMemory, MAX_PAGE_ID};
+use rm_base::{Bytes, Duplicate, Items, KeyRange, MAX_PAGE_ID, PageId, WantOfMemory};
 use std::alloc::Global;
-use tree_change::count_of;
 
 /// The pages from the root of a tree down to the leaf of the key, the root first.
 pub(crate) fn way(
@@ -80,7 +79,7 @@ pub fn leaves_in(
 /// The next page that can be made. None where there are no more.
 pub fn next_page(store: &PageStore) -> Option<PageId>
     requires { (roots : List ℕ) × (items : ℕ → List (List ℕ)) × Forest (pages_of store.now) roots items }
-    ensures { SomeIff result (splits.count_of (pages_of store.now 0) ≤ MAX_PAGE_ID) (splits.count_of (pages_of store.now 0)) }
+    ensures { SomeIff result (counters.page_count (pages_of store.now 0) ≤ MAX_PAGE_ID) (counters.page_count (pages_of store.now 0)) }
 {
-    PageId::new(count_of(meta_page(store)))
+    PageId::new(page_count(meta_page(store)))
 }

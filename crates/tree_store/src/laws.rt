@@ -5,7 +5,7 @@ ghost use Rattle.page_view.specs.Leaf.{HoldsLeaf};
 ghost use Rattle.page_view.specs.Keys.{keys_of, Ascend};
 ghost use Rattle.page_store.specs.Stored.{pages_of};
 ghost use Rattle.page_store.specs.Opening.{opened};
-ghost use Rattle.tree_change.specs.Splits.{count_of};
+ghost use Rattle.page_image.specs.Meta.{page_count};
 ghost use Rattle.tree_store.specs.Forest.{Forest};
 
 use rm_base::CATALOG_ROOT_PAGE_ID;
@@ -20,5 +20,5 @@ pub fn forest_laws()
         → AllByRecursion HoldsLeaf (items root) × Ascend (keys_of (items root)) }
 
     // The next page is no root.
-    ensures fresh { (pages : ℕ → Image) (roots : List ℕ) (items : ℕ → List (List ℕ)) → Forest pages roots items → ¬ Contains roots (count_of (pages 0)) }
+    ensures fresh { (pages : ℕ → Image) (roots : List ℕ) (items : ℕ → List (List ℕ)) → Forest pages roots items → ¬ Contains roots (page_count (pages 0)) }
 {}

@@ -3,16 +3,13 @@ use Rattle.std.specs.Prelude.{◌<◌, ◌+◌, ℕ, Bool, true, false, List, []
 use Rattle.rm_base.specs.Fields.{field, number}
 use Rattle.page_image.specs.declared.kind.Kind.TheVariants.{Undo}
 use Rattle.page_image.specs.Image.{Image, free_of}
+use Rattle.page_image.specs.Meta.{page_count}
 use Rattle.page_view.specs.Undo.{undo_bytes}
 use Rattle.redo_record.specs.declared.redo.Record.{Record}
 use Rattle.redo_record.specs.declared.redo.Record.TheVariants.{Make, Patch, InsertSlot}
 use Rattle.undo_versions.specs.declared.items.UndoItem.{UndoItem}
 use Rattle.undo_versions.specs.declared.appending.UndoStep.{UndoStep}
 use Rattle.undo_versions.specs.Reading.{undone_of}
-
--- the number of pages that a meta page counts
-abbrev pub page_count : Image → ℕ
-page_count meta = number 4 (drop 4 meta.body)
 
 -- the bytes of an item
 abbrev pub bytes_of : UndoItem → List ℕ

@@ -2,6 +2,7 @@
 use Rattle.std.specs.Prelude.{◌≡◌, ◌≢◌, ◌≤◌, ℕ, List, [], ◌∷◌, ◌++◌, length, drop, Option, Some, None}
 use Rattle.std.specs.List.{AllByRecursion}
 use Rattle.rm_base.specs.Fields.{number}
+use Rattle.page_image.specs.Meta.{page_count}
 use Rattle.page_image.specs.declared.kind.Kind.TheVariants.{Meta, Undo}
 use Rattle.page_image.specs.Image.{Image, unmade}
 use Rattle.redo_record.specs.declared.redo.Record.{Record}
@@ -10,7 +11,7 @@ use Rattle.redo_record.specs.Spelling.{IsAdmitted}
 use Rattle.undo_versions.specs.declared.items.UndoItem.{UndoItem}
 use Rattle.undo_versions.specs.declared.appending.UndoStep.{UndoStep}
 use Rattle.undo_versions.specs.Reading.{older}
-use Rattle.undo_versions.specs.Appending.{bytes_of, page_count}
+use Rattle.undo_versions.specs.Appending.{bytes_of}
 
 -- the records can be those of one group; they apply in order to this page, and every other page stays as it is
 pub record RunsOn (page : Image) (records : List Record) : Type 0 where

@@ -1,15 +1,15 @@
 //! The part of a plan that keeps what a change replaces.
 ghost use Rattle.std.specs.Prelude.{◌≡◌, ◌≤◌, ◌↔◌, ℕ, true, IfOk, IfErr, IsErr};
+ghost use Rattle.page_image.specs.Meta as counters;
 ghost use Rattle.page_view.specs.Undo.{IsUndo};
 ghost use Rattle.undo_versions.specs.Reading.{undone_of};
 ghost use Rattle.undo_versions.specs.Appending as spec;
 ghost use Rattle.undo_versions.specs.Appending.{NeedsPage, fits_bytes, appended_bytes, begun_with};
 ghost use Rattle.undo_versions.specs.Effects.{Appends};
 
-use crate::counting::page_count;
 use crate::items::UndoItem;
 use crate::spelling::item_bytes;
-use page_image::{Kind, Page};
+use page_image::{Kind, Page, page_count};
 use redo_record::{Record, Records, TreeNo};
 use rm_base::{Bytes, MAX_PAGES, PageId, UndoPtr, WantOfMemory};
 use std::alloc::Global;
@@ -100,7 +100,7 @@ pub fn append_plan(
     requires undo { undo.now.kind ≡ Kind.Undo }
     requires item { IsUndo (undone_of item.now) }
     ensures full { IfOk result (λ answer.
-        IsErr answer ↔ (NeedsPage undo.now item.now × (MAX_PAGES ≤ spec.page_count meta.now))) }
+        IsErr answer ↔ (NeedsPage undo.now item.now × (MAX_PAGES ≤ counters.page_count meta.now))) }
     ensures no { IfOk result (λ answer. IfErr answer (λ no. no ≡ TreeNo.SpaceFull)) }
     ensures step { IfOk result (λ answer. IfOk answer (λ step.
         step ≡ spec.undo_step meta.now undo.now item.now)) }

@@ -5,21 +5,10 @@ ghost use Rattle.page_image.specs.Rules.{IsImage};
 ghost use Rattle.undo_versions.specs.Appending as spec;
 ghost use Rattle.undo_versions.specs.Effects.{Uses};
 
-use page_image::{Kind, Page};
+use page_image::{Kind, PAGE_COUNT_AT, Page};
 use redo_record::{Record, Records};
-use rm_base::{Bytes, PageId, WantOfMemory, get_u32, push_u32};
+use rm_base::{Bytes, PageId, WantOfMemory, push_u32};
 use std::alloc::Global;
-
-/// Where a meta page has the number of pages; the undo page in use stands behind it.
-const COUNT_AT: u16 = 36;
-
-/// The number of pages that the meta page counts.
-pub(crate) fn page_count(meta: &Page) -> u32
-    requires { meta.now.kind ≡ Kind.Meta }
-    ensures { result ≡ spec.page_count meta.now }
-{
-    get_u32(meta.bytes(), usize::from(COUNT_AT))
-}
 
 fn count_bytes(alloc: Global, count: u32, page: PageId) -> Result<Bytes, WantOfMemory>
     ensures { IfOk result (λ bytes. bytes ≡ field 4 count ++ field 4 page) }
@@ -65,7 +54,7 @@ pub fn push_undo_page(
     let bytes = count_bytes(alloc, count, page)?;
     records.push(Record::Patch {
         page: meta.page(),
-        at: COUNT_AT,
+        at: PAGE_COUNT_AT,
         bytes,
     })
 }

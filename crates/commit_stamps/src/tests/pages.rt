@@ -1,6 +1,7 @@
 //! Pages for tests.
 ghost use Rattle.std.specs.Prelude.{IsTrue, IfOk, IfSome};
-ghost use Rattle.commit_stamps.specs.Fields.{IsMeta, IsSlots, slot_of};
+ghost use Rattle.page_image.specs.Meta.{IsMeta, IsSlots};
+ghost use Rattle.commit_stamps.specs.Fields.{slot_of};
 ghost use Rattle.commit_stamps.specs.Stamping.{IsStampPage};
 
 use page_image::{Kind, Page};

@@ -3,8 +3,8 @@ use Rattle.std.proofs.lemmas.Slice.{between_to_end}
 use Rattle.page_view.specs.Undo.{HoldsOld}
 use Rattle.page_view.proofs.undo.holds_undo.Goals as goal
 
-pub returns-then-get_u32-le32767 : goal.returns-then-get_u32-le32767
-returns-then-get_u32-le32767 c =
+pub returns-then-get_u32-le-MAX_PAGE_ID : goal.returns-then-get_u32-le-MAX_PAGE_ID
+returns-then-get_u32-le-MAX_PAGE_ID c =
     let item : List ℕ = c.args.item.now in
     let whole : take (length item - 19) (drop 19 item) ≡ drop 19 item = between_to_end item 19 (length item) (omega arith) in
     let Old : List ℕ → Type 0 = λ old. HoldsOld (slice_index item 18) old in (

@@ -1,9 +1,10 @@
 use Rattle.std.proofs.Common.{◌≡◌, ◌≤◌, ◌+◌, sym, subst}
+use Rattle.page_image.specs.Meta.{page_count}
 use Rattle.page_image.specs.Image.{Image}
 use Rattle.page_image.specs.Rules.{IsImage}
 use Rattle.tree_change.specs.Places.{page_on}
 use Rattle.tree_change.specs.Pages.{IsTreePage}
-use Rattle.tree_change.specs.Splits.{count_of, root_split_plan, IsSplitPlace}
+use Rattle.tree_change.specs.Splits.{root_split_plan, IsSplitPlace}
 use Rattle.tree_change.specs.Effects.{Keeps}
 use Rattle.tree_change.proofs.AnswerLaws.{when_placed}
 use Rattle.tree_change.proofs.WayLaws.{tree_pages, some_pages}
@@ -21,7 +22,7 @@ split_root-requires-clause-root c =
 pub returns-clause-keeps : goal.returns-clause-keeps
 returns-clause-keeps c =
     let e : c.root_of-root.result.now ≡ page_on c.args.path.now 0 = c.root_of-root.ensures in
-    when_placed (count_of c.args.meta.now + 1 ≤ 32767) (λ at. IsSplitPlace c.root_of-root.result.now.items at)
+    when_placed (page_count c.args.meta.now + 1 ≤ 32767) (λ at. IsSplitPlace c.root_of-root.result.now.items at)
     (λ at. root_split_plan c.root_of-root.result.now at c.args.meta.now)
     (λ plan. Keeps c.args.item.now.key c.args.path.now c.args.meta.now plan) c.split_root.result
     c.split_root.ensures.room c.split_root.ensures.plan

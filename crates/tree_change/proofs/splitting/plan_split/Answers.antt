@@ -1,10 +1,11 @@
 use Rattle.std.proofs.Common.{◌≡◌, ◌≤◌, ◌<◌, ◌+◌, ℕ, List, length, get_or, arith, ap, sym, subst, ◌∙◌}
 use Rattle.std.proofs.lemmas.List.{get_or_read}
+use Rattle.page_image.specs.Meta.{page_count}
 use Rattle.page_image.specs.Image.{Image, unmade, free_of}
 use Rattle.page_image.specs.Rules.{IsImage}
 use Rattle.tree_change.specs.Places.{page_on}
 use Rattle.tree_change.specs.Pages.{HasChildren, IsTreePage}
-use Rattle.tree_change.specs.Splits.{count_of, split_plan, IsSplitPlace, IsFirstFull}
+use Rattle.tree_change.specs.Splits.{split_plan, IsSplitPlace, IsFirstFull}
 use Rattle.tree_change.specs.Effects.{Keeps}
 use Rattle.tree_change.proofs.AnswerLaws.{when_placed}
 use Rattle.tree_change.proofs.WayLaws.{tree_pages, inner_children}
@@ -58,7 +59,7 @@ returns-clause-keeps c =
     let page_is : IsTreePage (page_on path (above + 1)) = tree_pages key path c.requires.way (above + 1) (omega (arith, long, within)) in
     let parent : HasChildren (page_on path above) = inner_children key path c.requires.way above (omega (arith, long, within)) in
     let room : 71 ≤ free_of (page_on path above) = inner_room c.args.item.now (page_on path above) parent.kind (full.others above (omega arith)) in
-    when_placed (count_of c.args.meta.now ≤ 32767) (λ at. IsSplitPlace c.index-pages-above-3.result.items at)
+    when_placed (page_count c.args.meta.now ≤ 32767) (λ at. IsSplitPlace c.index-pages-above-3.result.items at)
     (λ at. split_plan c.args.item.now.key c.index-pages-above-2.result c.index-pages-above-3.result at c.args.meta.now)
     (λ plan. Keeps c.args.item.now.key c.args.path.now c.args.meta.now plan) c.split_below.result
     c.split_below.ensures.room c.split_below.ensures.plan

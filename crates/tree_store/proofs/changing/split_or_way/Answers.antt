@@ -1,11 +1,12 @@
 use Rattle.std.proofs.Common.{ℕ, List, Option, Result, IsNone, refl, subst}
+use Rattle.page_image.specs.Meta.{page_count}
 use Rattle.page_image.specs.Image.{Image}
 use Rattle.redo_record.specs.declared.plans.Plan.{Plan}
 use Rattle.redo_record.specs.declared.plans.TreeNo.{TreeNo}
 use Rattle.page_store.specs.Stored.{pages_of}
 use Rattle.tree_change.specs.Places.{page_on}
 use Rattle.tree_change.specs.Room.{lacks_room}
-use Rattle.tree_change.specs.Splits.{HaveRoom, SpaceFor, count_of}
+use Rattle.tree_change.specs.Splits.{HaveRoom, SpaceFor}
 use Rattle.tree_change.specs.Effects.{Keeps}
 use Rattle.tree_store.specs.Forest.{IsWayIn}
 use Rattle.tree_store.proofs.ForestLaws.{way_to}
@@ -76,7 +77,7 @@ returns-clause-full c =
     let path = c.in_ok-path.path in
     let meta = c.meta_page.result.now in
     let v : IsWayIn ps c.args.root item.key path = subst (λ (k : List ℕ). IsWayIn ps c.args.root k path) c.as_slice.ensures c.in_ok-path.ensures in
-    let none : ¬ SpaceFor (lacks_room item (page_on path 0)) (page_on path 0) (count_of meta) =
-    refused c.in_ok-plan_room.field-0 c.in-Some-Err.field-0 c.in-Some-Err.no (SpaceFor (lacks_room item (page_on path 0)) (page_on path 0) (count_of meta))
+    let none : ¬ SpaceFor (lacks_room item (page_on path 0)) (page_on path 0) (page_count meta) =
+    refused c.in_ok-plan_room.field-0 c.in-Some-Err.field-0 c.in-Some-Err.no (SpaceFor (lacks_room item (page_on path 0)) (page_on path 0) (page_count meta))
     c.in_ok-plan_room.ensures.space c.in-Some-Err.is c.in-Some-Err.field-0-is in
     full_from ps item item.key path (way_to ps f.0 f.1 f.2 c.args.root f.3 item.key path v) meta refl c.meta_page.ensures none

@@ -4,8 +4,8 @@ use Rattle.redo_record.specs.declared.redo.Record.{Record}
 use Rattle.redo_record.specs.Spelling.{IsAdmitted}
 use Rattle.redo_record.specs.Effect.{RecordsApply}
 use Rattle.page_store.specs.Stored.{Stored, pages_of}
-use Rattle.page_store.specs.Opening.{opening_records}
-use Rattle.page_store.proofs.OpeningLaws.{opening_admitted, opening_applies}
+use Rattle.redo_record.specs.Opening.{opening_records}
+use Rattle.redo_record.proofs.OpeningLaws.{opening_admitted, opening_applies}
 use Rattle.page_store.proofs.store.PageStore.new.Goals as goal
 
 pub run-requires-clause-admitted : goal.run-requires-clause-admitted

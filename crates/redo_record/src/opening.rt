@@ -1,32 +1,29 @@
+//! The group that every log begins with.
+
 ghost use Rattle.std.specs.Prelude.{◌≡◌, ◌≤◌, ◌++◌, IfOk, OnOk};
 ghost use Rattle.rm_base.specs.Fields.{field};
 ghost use Rattle.redo_record.specs.declared.redo.Record.TheVariants.{Make};
-ghost use Rattle.page_store.specs.Opening.{meta_fields, opening_records};
+ghost use Rattle.redo_record.specs.Opening.{meta_fields, opening_records};
 
-use crate::{FIELDS_AT, FIRST_NUMBER, FORMAT, NO_STAMP};
+use crate::redo::{Record, Records};
 use page_image::Kind;
-use redo_record::{Record, Records};
 use rm_base::{
     Bytes, CATALOG_ROOT_PAGE_ID, FIRST_FREE_PAGE_ID, FIRST_UNDO_PAGE_ID, MAX_PAGE_ID, META_PAGE_ID,
-    PageId, SLOTS_PAGE_ID, WantOfMemory, put_u32, put_u64,
+    PageId, SLOTS_PAGE_ID, WantOfMemory, push_u32, push_u64,
 };
 use std::alloc::Global;
 
-fn push_u32(out: &mut Bytes, v: u32) -> Result<(), WantOfMemory>
-    ensures { OnOk result (out.new ≡ out.old ++ field 4 v) }
-{
-    let mut bytes = [0; 4];
-    put_u32(&mut bytes, 0, v);
-    out.append(&bytes)
-}
+/// Where the meta page's fields begin, in bytes.
+const FIELDS_AT: u16 = 32;
 
-fn push_u64(out: &mut Bytes, v: u64) -> Result<(), WantOfMemory>
-    ensures { OnOk result (out.new ≡ out.old ++ field 8 v) }
-{
-    let mut bytes = [0; 8];
-    put_u64(&mut bytes, 0, v);
-    out.append(&bytes)
-}
+/// The number of the format of pages and redo.
+const FORMAT: u32 = 1;
+
+/// The number that the first transaction is given.
+const FIRST_NUMBER: u64 = 1;
+
+/// No transaction is committed.
+const NO_STAMP: u64 = 0;
 
 /// The meta page's fields.
 fn meta_fields(alloc: Global) -> Result<Bytes, WantOfMemory>
@@ -54,7 +51,7 @@ fn make(page: u32, kind: Kind) -> Record
 }
 
 /// The records of the group that every log begins with.
-pub(crate) fn opening_records(alloc: Global) -> Result<Records, WantOfMemory>
+pub fn opening_records(alloc: Global) -> Result<Records, WantOfMemory>
     ensures { IfOk result (λ records. records ≡ opening_records) }
 {
     let mut records = Records::new(alloc);

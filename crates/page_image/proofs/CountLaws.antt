@@ -1,4 +1,4 @@
--- The number of pages in a meta page's body.
+-- For the proofs: the number of pages in a meta page's body.
 use Rattle.std.proofs.Common.{◌≡◌, ◌-◌, ℕ, List, ◌++◌, drop, refl, sym, ◌∙◌, ap, subst}
 use Rattle.rm_base.specs.declared.limits.TheConstants.{PAGE_BYTES, PAGE_HEADER_BYTES}
 use Rattle.std.specs.Prelude.{if◌then◌else◌}

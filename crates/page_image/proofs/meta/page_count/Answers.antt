@@ -1,7 +1,7 @@
 use Rattle.std.proofs.Common.{ℕ, List, ◌∙◌, ap, drop}
 use Rattle.rm_base.specs.Fields.{number}
-use Rattle.tree_change.proofs.CountLaws.{count_in}
-use Rattle.tree_change.proofs.counting.count_of.Goals as goal
+use Rattle.page_image.proofs.CountLaws.{count_in}
+use Rattle.page_image.proofs.meta.page_count.Goals as goal
 
 pub returns : goal.returns
 returns c =
