@@ -1,3 +1,4 @@
 pub mod Found
 pub mod Tree
 pub mod Walk
+pub mod Forest

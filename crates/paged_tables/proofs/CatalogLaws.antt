@@ -14,7 +14,7 @@ use Rattle.rm_base.specs.declared.key_range.KeyRange.{KeyRange}
 use Rattle.rm_base.proofs.FieldLaws.{length-field}
 use Rattle.sql_values.specs.Tables.{IsNamed, IsTable}
 use Rattle.page_image.specs.Image.{Image}
-use Rattle.tree_store.specs.Forest.{Forest}
+use Rattle.bplus_tree.specs.Forest.{Forest}
 use Rattle.sql_database.specs.Database.{Database}
 use Rattle.sql_values.specs.declared.schemas.Column.{Column}
 use Rattle.sql_values.specs.declared.schemas.Schema.{Schema}

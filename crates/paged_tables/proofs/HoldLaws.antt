@@ -14,7 +14,7 @@ use Rattle.sql_values.specs.declared.schemas.Schema.{Schema}
 use Rattle.sql_values.specs.declared.values.Value.{Value}
 use Rattle.sql_values.specs.Order.{text_cmp}
 use Rattle.tree_change.specs.Effects.{with_item, without_item}
-use Rattle.tree_store.specs.Forest.{Forest, with_tree}
+use Rattle.bplus_tree.specs.Forest.{Forest, with_tree}
 use Rattle.sql_values.specs.Tables.{table_named}
 use Rattle.sql_database.specs.declared.changes.Change.{Change}
 use Rattle.sql_database.specs.Database.{Database, empty, key_place, row_key}

@@ -4,6 +4,7 @@ use Rattle.rm_base.specs.declared.limits.TheConstants.{CATALOG_ROOT_PAGE_ID}
 use Rattle.std.specs.Prelude.{IsOk, map, filter, option_map, option_to_list, Contains}
 use Rattle.std.specs.List.{AllByRecursion}
 use Rattle.rm_base.specs.declared.key_range.KeyRange.{KeyRange}
+use Rattle.bplus_tree.specs.Forest.{Forest, IsFull, with_tree}
 use Rattle.page_image.specs.Image.{Image}
 use Rattle.page_view.specs.declared.leaf.LeafItem.{LeafItem}
 use Rattle.page_view.specs.Leaf.{leaf_bytes}
@@ -14,7 +15,7 @@ use Rattle.tree_change.specs.Effects.{with_item}
 use Rattle.page_image.specs.Meta.{page_count}
 use Rattle.tree_change.specs.Room.{size_of, room_for}
 use Rattle.tree_change.specs.Places.{leaf_on}
-use Rattle.tree_store.specs.Forest.{Forest, IsFull, with_tree, IsWayIn, HasRoom}
+use Rattle.tree_store.specs.Rooms.{HasRoom, IsWayIn}
 use Rattle.tree_store.proofs.ForestLaws.{not_a_root}
 use Rattle.sql_values.specs.declared.schemas.Schema.{Schema}
 use Rattle.sql_values.specs.declared.values.Value.{Value}

@@ -4,7 +4,7 @@ use Rattle.rm_base.specs.declared.limits.TheConstants.{CATALOG_ROOT_PAGE_ID}
 use Rattle.std.specs.List.{AllByRecursion}
 use Rattle.page_image.specs.Image.{Image}
 use Rattle.page_store.specs.Stored.{Stored, pages_of, given_back}
-use Rattle.tree_store.specs.Forest.{Forest, IsFull}
+use Rattle.bplus_tree.specs.Forest.{Forest, IsFull}
 use Rattle.sql_values.specs.declared.schemas.Schema.{Schema}
 use Rattle.sql_values.specs.declared.values.Value.{Value}
 use Rattle.row_codec.specs.Keys.{key_bytes}

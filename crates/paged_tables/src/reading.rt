@@ -6,7 +6,7 @@ ghost use Rattle.bplus_tree.specs.Found.{items_of};
 ghost use Rattle.bplus_tree.specs.Walk as walk;
 ghost use Rattle.tree_change.specs.Pages.{HasRows};
 ghost use Rattle.page_store.specs.Stored.{pages_of};
-ghost use Rattle.tree_store.specs.Forest.{Forest, IsRoot};
+ghost use Rattle.bplus_tree.specs.Forest.{Forest, IsRoot};
 ghost use Rattle.sql_meaning.specs.Ranges.{is_past, is_before};
 ghost use Rattle.sql_meaning.specs.Ranges as ranges;
 ghost use Rattle.paged_tables.specs.Places.{IsFirst, IsEnd};

@@ -4,7 +4,7 @@ ghost use Rattle.sql_values.specs.declared.values.Value.{Value};
 ghost use Rattle.page_view.specs.Leaf.{IsLeaf, leaf_bytes};
 ghost use Rattle.page_store.specs.Stored.{pages_of};
 ghost use Rattle.tree_change.specs.Effects.{with_item};
-ghost use Rattle.tree_store.specs.Forest.{Forest, IsRoot, IsFull, with_tree};
+ghost use Rattle.bplus_tree.specs.Forest.{Forest, IsFull, IsRoot, with_tree};
 ghost use Rattle.row_codec.specs.Records.{IsRecord, value_bytes};
 ghost use Rattle.sql_engine.specs.Sound.{IsPlaced};
 ghost use Rattle.paged_tables.specs.Items.{row_item, row_items};

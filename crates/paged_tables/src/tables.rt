@@ -3,7 +3,7 @@ ghost use Rattle.redo_record.specs.Spelling.{Spells};
 ghost use Rattle.redo_record.specs.Effect.{CountsFrom};
 ghost use Rattle.page_store.specs.declared.TheConstants.{CATALOG_ROOT_PAGE_ID};
 ghost use Rattle.page_store.specs.Stored.{groups_of, pages_of, all_kept, given_back};
-ghost use Rattle.tree_store.specs.Forest.{IsFull};
+ghost use Rattle.bplus_tree.specs.Forest.{IsFull};
 ghost use Rattle.sql_database.specs.Database.{Database, empty};
 ghost use Rattle.sql_database.specs.Applied.{with_row, with_table};
 ghost use Rattle.sql_engine.specs.Sound.{CanChange, CanCreate};

@@ -1,6 +1,7 @@
 -- What the groups of plans do to the trees of a store.
 use Rattle.std.proofs.Common.{◌≡◌, ◌<◌, ℕ, List, [], ◌∷◌, ◌++◌, Option, Some, None, IsNone, Result, Ok, Err, true, false, refl, sym, ap, subst, ◌∙◌, arith}
 use Rattle.std.specs.Prelude.{Contains, IfSome, IfOk, IsOk, OnOk, OnErr, ◌↔◌}
+use Rattle.bplus_tree.specs.Forest.{Forest, with_tree}
 use Rattle.page_image.specs.Image.{Image}
 use Rattle.redo_record.specs.declared.redo.Record.{Record}
 use Rattle.redo_record.specs.declared.plans.Plan.{Plan}
@@ -9,7 +10,7 @@ use Rattle.page_store.specs.Stored.{Stored, pages_of, with_group, next_lsn}
 use Rattle.page_store.proofs.StoredLaws.{after_group}
 use Rattle.page_image.specs.Meta.{page_count}
 use Rattle.tree_change.specs.Effects.{pages_after, Carries, Keeps, Begins}
-use Rattle.tree_store.specs.Forest.{Forest, with_tree, IsWayIn}
+use Rattle.tree_store.specs.Rooms.{IsWayIn}
 use Rattle.tree_store.proofs.ForestLaws.{way_to, is_fresh, carried, kept, begun, count_after, with_itself}
 
 -- the trees of a store stay, and what is kept

@@ -17,7 +17,8 @@ use Rattle.tree_change.proofs.SiteLaws.{own_first}
 use Rattle.tree_change.proofs.FrameLaws.{tree_frame}
 use Rattle.tree_change.proofs.SplitTree.{unmade_apart, meta_apart}
 use Rattle.std.proofs.lemmas.List.Elements.{Contains-append_cases}
-use Rattle.tree_store.specs.Forest.{Owns, Forest, with_tree, IsWayIn}
+use Rattle.bplus_tree.specs.Forest.{Forest, Owns, with_tree}
+use Rattle.tree_store.specs.Rooms.{IsWayIn}
 
 -- ---- pages of trees
 

@@ -13,7 +13,7 @@ use Rattle.tree_change.proofs.PlaceLaws.{less_then}
 use Rattle.tree_change.proofs.SortLaws.{Sorted, sorted_from, ascend_from}
 use Rattle.tree_change.proofs.PartLaws.{Child}
 use Rattle.tree_change.proofs.SpotLaws.{Within, parts_within, stands_within}
-use Rattle.tree_store.specs.Forest.{Forest}
+use Rattle.bplus_tree.specs.Forest.{Forest}
 
 -- sorted items below a key, and sorted items from it on
 sorted_meet : (xs ys : List (List ℕ)) (key : List ℕ) → Sorted xs → Sorted ys → AllByRecursion (λ x. Below (Some key) (key_in x)) xs → AllByRecursion (λ y. NotBelow (Some key) (key_in y)) ys

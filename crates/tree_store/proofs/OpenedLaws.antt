@@ -8,7 +8,7 @@ use Rattle.page_store.proofs.OpeningLaws.{opened_root, opened_meta, opened_count
 use Rattle.page_image.specs.Meta.{page_count}
 use Rattle.tree_change.proofs.MemberLaws.{member_has}
 use Rattle.tree_change.proofs.BeginLaws.{empty_tree}
-use Rattle.tree_store.specs.Forest.{Owns, Forest}
+use Rattle.bplus_tree.specs.Forest.{Forest, Owns}
 
 opened_owns : Owns (pages_of opened) (λ q. CATALOG_ROOT_PAGE_ID) CATALOG_ROOT_PAGE_ID []
 opened_owns = record { tree = (empty_tree (pages_of opened) CATALOG_ROOT_PAGE_ID 1 opened_root).tree; owned = λ q k. refl }

@@ -4,6 +4,7 @@ use Rattle.std.specs.Prelude.{◌⊎◌}
 use Rattle.std.proofs.lemmas.List.{append_assoc, append-nil, map-append}
 use Rattle.std.proofs.lemmas.Bool.{cases_lt}
 use Rattle.std.proofs.lemmas.Bool.Decides.{nat_tests}
+use Rattle.bplus_tree.specs.Forest.{IsFull}
 use Rattle.page_image.specs.Meta.{page_count}
 use Rattle.page_image.specs.declared.kind.Kind.TheVariants as kind
 use Rattle.page_image.specs.Image.{Image, is_inner}
@@ -18,7 +19,7 @@ use Rattle.tree_change.specs.Room.{size_of, room_for, lacks_room}
 use Rattle.tree_change.specs.Splits.{HaveRoom, SpaceFor}
 use Rattle.tree_change.proofs.WayLaws.{leaf_rows, some_pages}
 use Rattle.tree_change.proofs.RootTree.{root_is}
-use Rattle.tree_store.specs.Forest.{IsWayIn, IsFull}
+use Rattle.tree_store.specs.Rooms.{IsWayIn}
 
 -- ---- the level of a tree is that of its root
 

@@ -1,2 +1,2 @@
-pub mod Forest
+pub mod Rooms
 pub mod Found

@@ -1,11 +1,12 @@
 //! Changes of one item of a tree: the splits that it needs, each one group, and then the change, one group.
 ghost use Rattle.std.specs.Prelude.{◌≡◌, ◌≤◌, ◌<◌, ◌++◌, ◌∷◌, [], ℕ, List, length, Contains, IfOk, IfErr, IfSome, IsNone, OnOk, OnErr};
+ghost use Rattle.bplus_tree.specs.Forest.{Forest, IsFull, IsRoot, with_tree};
 ghost use Rattle.redo_record.specs.Effect.{RecordsApply};
 ghost use Rattle.page_view.specs.Leaf.{IsLeaf, leaf_bytes};
 ghost use Rattle.page_store.specs.Stored.{pages_of, with_group};
 ghost use Rattle.page_image.specs.Meta.{page_count};
 ghost use Rattle.tree_change.specs.Effects.{MakeGroup, with_item, without_item};
-ghost use Rattle.tree_store.specs.Forest.{Forest, IsRoot, IsFull, HasRoom, with_tree};
+ghost use Rattle.tree_store.specs.Rooms.{HasRoom};
 
 use crate::finding::{meta_page, way};
 use page_store::PageStore;

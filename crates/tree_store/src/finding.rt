@@ -1,9 +1,10 @@
 //! The way to a key, and the leaves of a range of keys.
 ghost use Rattle.std.specs.Prelude.{◌≡◌, ◌≤◌, ℕ, List, Contains, IfOk, OnOk, SomeIff};
+ghost use Rattle.bplus_tree.specs.Forest.{Forest, IsRoot};
 ghost use Rattle.page_store.specs.Stored.{pages_of};
 ghost use Rattle.page_image.specs.Meta as counters;
 ghost use Rattle.page_image.specs.Meta.{IsMeta};
-ghost use Rattle.tree_store.specs.Forest.{Forest, IsRoot, IsWayIn};
+ghost use Rattle.tree_store.specs.Rooms.{IsWayIn};
 ghost use Rattle.tree_store.specs.Found.{HoldsRange};
 ghost use Rattle.tree_store.specs.Found as spec;
 

@@ -6,7 +6,7 @@ ghost use Rattle.page_view.specs.Keys.{keys_of, Ascend};
 ghost use Rattle.page_store.specs.Stored.{pages_of};
 ghost use Rattle.page_store.specs.Opening.{opened};
 ghost use Rattle.page_image.specs.Meta.{page_count};
-ghost use Rattle.tree_store.specs.Forest.{Forest};
+ghost use Rattle.bplus_tree.specs.Forest.{Forest};
 
 use rm_base::CATALOG_ROOT_PAGE_ID;
 

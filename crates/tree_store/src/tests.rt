@@ -1,7 +1,7 @@
 ghost use Rattle.std.specs.Prelude.{◌≤◌, IfOk, IfSome, OnOk};
 ghost use Rattle.page_view.specs.Leaf.{IsLeaf};
 ghost use Rattle.page_store.specs.Stored.{pages_of};
-ghost use Rattle.tree_store.specs.Forest.{IsRoot};
+ghost use Rattle.bplus_tree.specs.Forest.{IsRoot};
 
 use crate::*;
 use page_image::Page;

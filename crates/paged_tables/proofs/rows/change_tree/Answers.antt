@@ -3,7 +3,7 @@ use Rattle.std.specs.Option.{option_map_or}
 use Rattle.sql_values.specs.declared.values.Value.{Value}
 use Rattle.tree_change.specs.Effects.{with_item, without_item}
 use Rattle.page_store.specs.Stored.{pages_of}
-use Rattle.tree_store.specs.Forest.{Forest, with_tree}
+use Rattle.bplus_tree.specs.Forest.{Forest, with_tree}
 use Rattle.paged_tables.specs.Items.{row_item}
 use Rattle.paged_tables.specs.Changes.{changed_items}
 use Rattle.paged_tables.proofs.ReadLaws.{ok_gives}

@@ -1,7 +1,7 @@
 use Rattle.std.proofs.Common.{◌≡◌, ℕ, List, ap, subst, ◌∙◌}
 use Rattle.page_view.specs.declared.leaf.LeafItem.{LeafItem}
 use Rattle.page_store.specs.Stored.{pages_of}
-use Rattle.tree_store.specs.Forest.{Forest, with_tree}
+use Rattle.bplus_tree.specs.Forest.{Forest, with_tree}
 use Rattle.paged_tables.specs.Items.{live_item}
 use Rattle.paged_tables.proofs.ReadLaws.{ok_gives}
 use Rattle.paged_tables.proofs.RowLaws.{ok_part, item_put}

@@ -8,7 +8,7 @@ use Rattle.tree_change.specs.Places.{page_on}
 use Rattle.tree_change.specs.Room.{lacks_room}
 use Rattle.tree_change.specs.Splits.{HaveRoom, SpaceFor}
 use Rattle.tree_change.specs.Effects.{Keeps}
-use Rattle.tree_store.specs.Forest.{IsWayIn}
+use Rattle.tree_store.specs.Rooms.{IsWayIn}
 use Rattle.tree_store.proofs.ForestLaws.{way_to}
 use Rattle.tree_store.proofs.WayLaws.{room_on, full_from}
 use Rattle.tree_store.proofs.ChangeLaws.{kept_applies, ran_kept, ran_more, planned, refused}

@@ -5,7 +5,7 @@ use Rattle.page_store.specs.Stored.{pages_of}
 use Rattle.page_image.specs.Meta.{page_count}
 use Rattle.tree_change.specs.Effects.{with_item}
 use Rattle.tree_change.proofs.MemberLaws.{among}
-use Rattle.tree_store.specs.Forest.{Forest, with_tree}
+use Rattle.bplus_tree.specs.Forest.{Forest, with_tree}
 use Rattle.tree_store.proofs.tests.begin.Goals as goal
 
 pub returns : goal.returns

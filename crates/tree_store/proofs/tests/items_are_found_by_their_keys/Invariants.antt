@@ -1,5 +1,5 @@
 use Rattle.page_store.specs.Stored.{pages_of}
-use Rattle.tree_store.specs.Forest.{IsRoot}
+use Rattle.bplus_tree.specs.Forest.{IsRoot}
 use Rattle.tree_store.proofs.tests.items_are_found_by_their_keys.Given as goal
 
 abbrev pub invariant-loop-n : goal.invariant-loop-n

@@ -1,7 +1,7 @@
 use Rattle.page_view.specs.Leaf.{leaf_bytes}
 use Rattle.page_store.specs.Stored.{pages_of}
 use Rattle.tree_change.specs.Effects.{with_item}
-use Rattle.tree_store.specs.Forest.{Forest, IsRoot, with_tree}
+use Rattle.bplus_tree.specs.Forest.{Forest, IsRoot, with_tree}
 use Rattle.tree_store.proofs.ChangeLaws.{either_way}
 use Rattle.tree_store.proofs.tests.put_key.Goals as goal
 

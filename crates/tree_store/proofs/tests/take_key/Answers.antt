@@ -1,7 +1,7 @@
 use Rattle.std.proofs.Common.{[], ◌∷◌}
 use Rattle.page_store.specs.Stored.{pages_of}
 use Rattle.tree_change.specs.Effects.{without_item}
-use Rattle.tree_store.specs.Forest.{Forest, IsRoot, with_tree}
+use Rattle.bplus_tree.specs.Forest.{Forest, IsRoot, with_tree}
 use Rattle.tree_store.proofs.ChangeLaws.{either_way}
 use Rattle.tree_store.proofs.tests.take_key.Goals as goal
 

@@ -1,7 +1,7 @@
 use Rattle.std.proofs.Common.{ℕ, sym, subst, ◌∙◌}
 use Rattle.page_image.specs.Image.{Image}
 use Rattle.page_store.specs.Stored.{Stored, pages_of}
-use Rattle.tree_store.specs.Forest.{IsFull}
+use Rattle.bplus_tree.specs.Forest.{IsFull}
 use Rattle.sql_values.specs.declared.schemas.Schema.{Schema}
 use Rattle.sql_engine.specs.Sound.{IsPlaced}
 use Rattle.paged_tables.specs.Content.{IsFullNow, IsFullTable}

@@ -1,7 +1,7 @@
 use Rattle.std.proofs.Common.{sym, subst}
 use Rattle.std.specs.Prelude.{Contains}
 use Rattle.page_store.specs.Stored.{pages_of}
-use Rattle.tree_store.specs.Forest.{HasRoom}
+use Rattle.tree_store.specs.Rooms.{HasRoom}
 use Rattle.paged_tables.proofs.TableLaws.{held, ok_at, entry_room, create_made}
 use Rattle.paged_tables.proofs.tables.PagedTablesTableStore.create.Goals as goal
 

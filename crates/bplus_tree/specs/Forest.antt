@@ -1,11 +1,8 @@
--- Trees that stand side by side on the pages of one store.
-use Rattle.std.specs.Prelude.{◌≡◌, ◌≤◌, ◌+◌, ◌⊎◌, ℕ, List, map, Contains, nat_eq, if◌then◌else◌}
+-- Stated: trees that stand side by side on the pages of one store.
+use Rattle.std.specs.Prelude.{◌≡◌, ◌≤◌, ◌+◌, ◌⊎◌, ℕ, List, Contains, nat_eq, if◌then◌else◌}
 use Rattle.rm_base.specs.declared.limits.TheConstants.{FIRST_FREE_PAGE_ID, MAX_PAGES, MAX_TREE_LEVEL}
 use Rattle.page_image.specs.Image.{Image, unmade}
-use Rattle.page_view.specs.declared.leaf.LeafItem.{LeafItem}
-use Rattle.bplus_tree.specs.Tree.{Tree, Way}
-use Rattle.tree_change.specs.Places.{leaf_on}
-use Rattle.tree_change.specs.Room.{size_of, room_for}
+use Rattle.bplus_tree.specs.Tree.{Tree}
 use Rattle.page_image.specs.Meta.{IsMeta, page_count}
 
 -- a tree that stands for the items, each page of which belongs to it
@@ -35,14 +32,3 @@ IsFull pages root = (MAX_PAGES ≤ page_count (pages 0) + 1) ⊎ (MAX_TREE_LEVEL
 -- the items of the trees, where the one at the root has new ones
 abbrev pub with_tree : (ℕ → List (List ℕ)) → ℕ → List (List ℕ) → ℕ → List (List ℕ)
 with_tree items root new r = if nat_eq r root then new else items r
-
--- the pages of the path are those from the root of a tree down to the leaf of the key
-pub record IsWayIn (pages : ℕ → Image) (root : ℕ) (key : List ℕ) (path : List Image) : Type 0 where
-  pub numbers : List ℕ
-  pub way : (items : List (List ℕ)) (tree : Tree pages root items) → Way pages tree.level root key numbers
-  pub read : path ≡ map pages numbers
-
--- they are, and the leaf has room for the item
-pub record HasRoom (pages : ℕ → Image) (root : ℕ) (item : LeafItem) (path : List Image) : Type 0 where
-  pub way : IsWayIn pages root item.key path
-  pub room : size_of item ≤ room_for item.key (leaf_on path)
