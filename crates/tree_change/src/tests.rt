@@ -3,7 +3,7 @@ ghost use Rattle.page_view.specs.Leaf.{IsLeaf};
 ghost use Rattle.bplus_tree.specs.Walk.{IsToRead};
 ghost use Rattle.tree_change.specs.Pages.{HasChildren};
 
-use crate::changing::{insert_into, remove_from, replace_in};
+use crate::changing::{insert_into, replace_in};
 use crate::places::found_in;
 use crate::room::lacks_room;
 use crate::root_splitting::split_root;
@@ -18,10 +18,6 @@ use rm_base::{
 };
 use std::alloc::Global;
 use std::test::Fail;
-
-mod whole_tree;
-
-use whole_tree::stands_for;
 
 /// The number of the first page that is not the meta page.
 const FIRST: u32 = 1028;
@@ -324,22 +320,6 @@ fn put(alloc: Global, store: &mut Store, item: &LeafItem) -> Result<bool, WantOf
     Ok(false)
 }
 
-/// Takes the item with the key out. False where a step fails.
-#[tactic(auto, using(crate::proofs::ReadLaws::rows_read))]
-fn take(alloc: Global, store: &mut Store, key: &[u8]) -> Result<bool, WantOfMemory> {
-    let Some(path) = way(alloc, store, key)? else {
-        return Ok(false);
-    };
-    let Some(leaf) = path.as_slice().last() else {
-        return Ok(false);
-    };
-    if !can_be_read(leaf) || leaf.kind() != Kind::Leaf {
-        return Ok(false);
-    }
-    let plan = remove_from(alloc, leaf, key)?;
-    install(alloc, store, &plan)
-}
-
 /// The first leaf of the tree.
 fn first_leaf(alloc: Global, store: &Store) -> Result<Option<u32>, WantOfMemory> {
     let Some(path) = way(alloc, store, &[])? else {
@@ -407,43 +387,6 @@ fn keys_put_in_downwards_are_listed_upwards(rt: HostRuntime) -> Result<(), Fail>
         n = n.wrapping_add(1);
     }
     assert_eq!(rt; store.pages.first().map(|root| root.level()), Some(2));
-    Ok(())
-}
-
-/// The next number of a row of numbers without an order.
-fn next_number(n: u64) -> u64 {
-    n.wrapping_mul(6364136223846793005)
-        .wrapping_add(1442695040888963407)
-}
-
-#[test]
-fn changes_without_an_order_leave_the_list_that_they_say(rt: HostRuntime) -> Result<(), Fail> {
-    let mut store = empty_tree(rt.alloc())?.ok_or("no tree")?;
-    let mut wanted = [None; 48];
-    let mut number = 1;
-    for n in 0..240 {
-        number = next_number(number);
-        let key = (number >> 33) as usize % 48;
-        let value = (number >> 45) as usize % 984;
-        let there = wanted[key];
-        match (there, (number >> 40) % 4) {
-            (Some(_), 0) => {
-                assert!(rt; take(rt.alloc(), &mut store, &[key as u8])?, "{n}");
-                wanted[key] = None;
-            }
-            (Some((_, old)), 1) => {
-                let item = item_of(rt.alloc(), &[key as u8], old, true)?;
-                assert!(rt; put(rt.alloc(), &mut store, &item)?, "{n}");
-                wanted[key] = Some((true, old));
-            }
-            _ => {
-                let item = item_of(rt.alloc(), &[key as u8], value, false)?;
-                assert!(rt; put(rt.alloc(), &mut store, &item)?, "{n}");
-                wanted[key] = Some((false, value));
-            }
-        }
-        assert!(rt; stands_for(rt.alloc(), &store, &wanted)?, "{n}");
-    }
     Ok(())
 }
 
