@@ -7,3 +7,4 @@ mod SessionLaws
 mod ServingLaws
 mod LineEnds
 mod LineLaws
+pub mod Readings

@@ -1,7 +1,7 @@
 -- The one session, and what a line makes of its tables.
-use Rattle.std.specs.Prelude.{◌≡◌, ℕ, is_some, List, Result, Ok, Err}
+use Rattle.std.specs.Prelude.{◌≡◌, ℕ, is_some, List, Result, Ok}
 use Rattle.sql_statements.specs.declared.statements.Stmt.{Stmt}
-use Rattle.sql_front.specs.Sentences.{IsFirst, IsSql, IsWrongAt}
+use Rattle.sql_front.specs.Sentences.{Reads}
 use Rattle.sql_database.specs.declared.replies.SqlReply.{SqlReply}
 use Rattle.sql_database.specs.declared.replies.SqlReply.TheVariants as reply
 use Rattle.sql_database.specs.Database.{Database}
@@ -12,11 +12,6 @@ use Rattle.paged_tables.specs.Content.{HoldsKept, IsFullNow}
 use Rattle.table_machine.specs.Language.{Language}
 use Rattle.table_machine.specs.Serving.{TableState, Turn, seen}
 use Rattle.rmem_db.specs.declared.session.OneSession.{OneSession}
-
--- a text is read as a statement, or is first wrong at an offset
-abbrev pub Reads : List ℕ → Result Stmt ℕ → Type 0
-Reads text (Ok s) = IsSql text s
-Reads text (Err at) = IsFirst (IsWrongAt text) at
 
 -- a store of tables on pages that keeps a database is full
 abbrev pub CanBeFull : Database → Type 0

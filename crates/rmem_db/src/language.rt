@@ -9,11 +9,14 @@ pub(crate) struct Sql;
 
 impl Language for Sql {
     ghost use Rattle.sql_exec.proofs.AnswerLaws.{rules};
+    ghost use Rattle.rmem_db.proofs.Readings.{one_reading};
     ghost use Rattle.rmem_db.specs.Session.{sql};
 
     ghost language = { sql };
 
     ghost answer_rules = { rules };
+
+    ghost one_reading = { one_reading };
 }
 
 /// No text makes a table under the word that stands for the catalog. It does nothing when it is run.

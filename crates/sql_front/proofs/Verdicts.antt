@@ -11,7 +11,7 @@ use Rattle.sql_front.specs.declared.parsing.Syntax.{Syntax}
 use Rattle.sql_front.specs.Grammar.{IsStatement}
 use Rattle.sql_front.specs.Input.{Outcome}
 use Rattle.sql_front.specs.ReadStmt.{statement}
-use Rattle.sql_front.specs.Sentences.{IsSql, BeginStatement, IsWrongAt, no_token, no_statement, unfinished, too_long, IsFirst, place, limited, ReadsAll}
+use Rattle.sql_front.specs.Sentences.{IsSql, BeginStatement, IsWrongAt, no_token, no_statement, unfinished, too_long, IsFirst, Reads, place, limited, ReadsAll}
 use Rattle.sql_front.specs.Symbols.{Input, symbol_of}
 use Rattle.sql_front.proofs.Statements.{all_read, passed_begin, stopped_ends, one_meaning, read_means, stop_rest, left_of}
 use Rattle.sql_front.proofs.Texts.{end_of, in_order}
@@ -75,6 +75,12 @@ module _ (one : HasOneReading) (sql : List ℕ) where
   one_statement s t p q =
       let same = (one sql q.tokens p.tokens None None q.lexed p.lexed).0 in
       one_meaning (map symbol_of p.tokens) s t p.means (subst (λ z. IsStatement (map symbol_of z) t) same q.means)
+
+  pub one_reading : (a b : Result Stmt ℕ) → Reads sql a → Reads sql b → a ≡ b
+  one_reading (Ok s) (Ok t) p q = ap Ok (one_statement s t p q)
+  one_reading (Ok s) (Err at) p q = absurd (exclusive s at p q.0)
+  one_reading (Err at) (Ok s) p q = absurd (exclusive s at q p.0)
+  one_reading (Err at) (Err to) p q = ap Err (let a = p.1 to q.0 in let b = q.1 at p.0 in omega arith)
 
   abbrev Parsed : Type 0
   Parsed = Result Stmt Syntax

@@ -19,7 +19,7 @@ mod stopping;
 #[cfg(test)]
 mod tests;
 
-pub use laws::{created_tables, one_meaning};
+pub use laws::{created_tables, one_meaning, reading_laws};
 pub use parsing::{Syntax, parse};
 pub use rendering::print;
 pub use sql_statements::{

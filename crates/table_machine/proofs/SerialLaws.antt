@@ -15,8 +15,8 @@ use Rattle.sql_database.proofs.KindLaws.{IsPlainKind, plain_kind}
 use Rattle.table_machine.specs.declared.entries.Entry.{Entry}
 use Rattle.table_machine.specs.declared.entries.Entry.TheVariants as entry
 use Rattle.table_machine.specs.Conflicts.{Evaluated, evaluated as evaluated_in}
-use Rattle.table_machine.specs.Language.{Language}
-use Rattle.table_machine.specs.Laws.{HasNoFull, IsNotFull, OneSerial, ReadsOneWay}
+use Rattle.table_machine.specs.Language.{Language, ReadsOneWay}
+use Rattle.table_machine.specs.Laws.{HasNoFull, IsNotFull, OneSerial}
 use Rattle.table_machine.specs.Machine.{Commit, Machine, Session, Statement, Transaction, commit_of, due_of, is_lasting, is_open, is_some_of, is_stopped, pending_of, queued, running, settled, start, unqueued}
 use Rattle.table_machine.specs.Moves.{answered, answered_session, asking, enqueued, executed, forced, fresh, in_queue, is_made, is_told, joined, joins, queued_session, settled_session, settles, snapped, snapshot, submitted, told_session}
 use Rattle.table_machine.specs.Replies.{IsReplied, IsSyntax, MayReply, begun, done, evaluated, full, plain_end, pool_full, read_only, second_begin, stray_end}
@@ -421,7 +421,7 @@ module _ (language : Language) (reads : ReadsOneWay language) (answers : OneAnsw
       let more : v.2 ≡ w.2 = lines_once lines v.0 new other v.2 w.2 one.2 (rest_has v.1 v.2 pv) (rest_has w.1 w.2 qw) v.4 (subst (λ k. Serves language 0 k lines w.2 other) (sym one.1) w.4) in
       v.5 ∙ (ap (λ l. l ++ v.2) one.0 ∙ (ap (λ l. w.1 ++ l) more ∙ sym w.5))
 
-pub one_serial : (language : Language) → OneAnswer language.answers → OneSerial language
+pub one_serial : (language : Language) → OneAnswer language.answers → ReadsOneWay language → OneSerial language
 one_serial language answers reads nodes base first name lines es fs up p q v w =
     let ready : v.0 ≡ w.0 = step_once language answers reads (entry.Join 0 name 0) (start nodes base first) v.0 w.0 v.3 w.3 in
     let pv : HasNoFull (entry.Join 0 name 0 ∷ v.2) = subst HasNoFull v.5 p in

@@ -3,7 +3,7 @@ use Rattle.std.proofs.Common.{◌≡◌, ℕ, List, [], ◌∷◌, Some, unwrap_
 use Rattle.sql_database.specs.Answers.{Answer}
 use Rattle.table_machine.specs.declared.entries.Entry.TheVariants as entry
 use Rattle.table_machine.specs.Conflicts.{evaluated}
-use Rattle.table_machine.specs.Language.{Language}
+use Rattle.table_machine.specs.Language.{Language, ReadsOneWay}
 use Rattle.table_machine.specs.Machine.{Machine, Transaction, view}
 use Rattle.table_machine.specs.Moves.{executed, submitted}
 use Rattle.table_machine.specs.Runs.{Leads}
@@ -23,7 +23,7 @@ executed_once language answers m s t u a b p q =
     ap (λ v. executed m s (evaluated m s v a)) trx
     ∙ ap (λ c. executed m s (evaluated m s u c)) (answers (view m u) q.statement a b given q.answers)
 
-pub step_once : (language : Language) → OneAnswer language.answers → StepsAreDetermined language
+pub step_once : (language : Language) → OneAnswer language.answers → ReadsOneWay language → StepsAreDetermined language
 step_once language answers one (entry.Join s name n) old a b p q = p.2 ∙ sym q.2
 step_once language answers one (entry.Submit s text) old a b p q = p.5 ∙ (ap (submitted old s) (one text p.0 q.0 p.4 q.4) ∙ sym q.5)
 step_once language answers one (entry.Snap s) old a b p q = p.2 ∙ sym q.2
@@ -40,7 +40,7 @@ step_once language answers one (entry.Ignored l) old a b p q = p.1 ∙ sym q.1
 step_once language answers one (entry.Missed l) old a b p q = p.1 ∙ sym q.1
 step_once language answers one (entry.End ss) old a b p q = p.2 ∙ sym q.2
 
-pub run_once : (language : Language) → OneAnswer language.answers → RunsAreDetermined language
+pub run_once : (language : Language) → OneAnswer language.answers → ReadsOneWay language → RunsAreDetermined language
 run_once language answers one [] old a b p q = p ∙ sym q
 run_once language answers one (e ∷ es) old a b p q =
     run_once language answers one es p.0 a b p.2 (subst (λ m. Leads language m es b) (sym (step_once language answers one e old p.0 q.0 p.1 q.1)) q.2)

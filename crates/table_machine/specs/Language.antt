@@ -10,3 +10,7 @@ pub record Language : Type 1 where
   pub parses : List ℕ → Result Stmt ℕ → Type 0
   pub answers : Answering
   pub full : Database → Type 0
+
+-- a text is read in one way
+abbrev pub ReadsOneWay : Language → Type 0
+ReadsOneWay language = (text : List ℕ) (a b : Result Stmt ℕ) → language.parses text a → language.parses text b → a ≡ b

@@ -63,19 +63,15 @@ SettlesChanges language =
     (old new : Machine) → old.first ≤ old.count
     → Step language old entry.Settle new → committed new new.count ≡ applied (committed old old.count) (old.changes (old.count + 1))
 
--- a text is read in one way
-abbrev pub ReadsOneWay : Language → Type 0
-ReadsOneWay language = (text : List ℕ) (a b : Result Stmt ℕ) → language.parses text a → language.parses text b → a ≡ b
-
--- an entry leads from a state to one state, where texts are read in one way
+-- an entry leads from a state to one state
 abbrev pub StepsAreDetermined : Language → Type 0
 StepsAreDetermined language =
-    ReadsOneWay language → (e : Entry) (old a b : Machine) → Step language old e a → Step language old e b → a ≡ b
+    (e : Entry) (old a b : Machine) → Step language old e a → Step language old e b → a ≡ b
 
 -- entries lead from a state to one state
 abbrev pub RunsAreDetermined : Language → Type 0
 RunsAreDetermined language =
-    ReadsOneWay language → (es : List Entry) (old a b : Machine) → Leads language old es a → Leads language old es b → a ≡ b
+    (es : List Entry) (old a b : Machine) → Leads language old es a → Leads language old es b → a ≡ b
 
 -- lines that are answered one after the other are a run
 abbrev pub ServingIsARun : Language → Type 0
@@ -153,11 +149,10 @@ IsNotFull e = Unit {0}
 abbrev pub HasNoFull : List Entry → Type 0
 HasNoFull es = AllByRecursion IsNotFull es
 
--- the lines of one session have one serial run, where texts are read in one way and no reply says that there is no room
+-- the lines of one session have one serial run, where no reply says that there is no room
 abbrev pub OneSerial : Language → Type 0
 OneSerial language =
-    ReadsOneWay language
-    → (nodes : ℕ) (base : Database) (first : ℕ) (name : List ℕ) (lines : List (List ℕ)) (es fs : List Entry)
+    (nodes : ℕ) (base : Database) (first : ℕ) (name : List ℕ) (lines : List (List ℕ)) (es fs : List Entry)
     → nat_lt 0 nodes ≡ true → HasNoFull es → HasNoFull fs
     → IsSerial language nodes base first name lines es → IsSerial language nodes base first name lines fs → es ≡ fs
 

@@ -3,7 +3,7 @@ use Rattle.std.proofs.Common.{◌≡◌, [], Ok, refl, sym, subst, ◌∙◌}
 use Rattle.sql_statements.specs.declared.statements.Stmt.TheVariants as stmt
 use Rattle.sql_database.specs.Answers.{Answer, rows, refused, wants}
 use Rattle.sql_database.specs.Rules.{AnswerRules, IsFair}
-use Rattle.table_machine.specs.Language.{Language}
+use Rattle.table_machine.specs.Language.{Language, ReadsOneWay}
 
 abbrev pub silent : Language
 silent = record { parses = λ text read. read ≡ Ok stmt.Begin; answers = λ d st a. a ≡ rows []; full = λ d. ⊥ }
@@ -21,3 +21,6 @@ silent_rules = record {
   by_content = λ d e st a h p. p;
   fits = λ d st cs n dup free proper p. absurd (subst IsRows (sym p) tt);
 }
+
+pub silent_reading : ReadsOneWay silent
+silent_reading text a b p q = p ∙ sym q

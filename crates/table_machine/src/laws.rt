@@ -2,12 +2,14 @@ ghost use Rattle.table_machine.specs.Language as machine;
 ghost use Rattle.table_machine.specs.Laws.{AloneHasNoConflict, AnswersGoOn, BeginIsARun, CommitIsMade, CommitsStay, ForcedMayStand, FrontsAreRuns, InTurnIsARun, JoinServes, LinesAreAnswered, OkIsCommitted, OneSerial, OverlapsShareNoKey, QueuesOwnChanges, RunsAreDetermined, RunsGoOn, ServingGoesOn, ServingIsARun, SettlesChanges, StepsAreDetermined, TurnsAreAnswered, TurnsGoOn, WaitingStays};
 ghost use Rattle.sql_database.specs.Rules.{AnswerRules};
 
-/// A language of statements: which texts are read as which statements, and which answers a statement has over
-/// a database, which keep the rules of answers.
+/// A language of statements: which texts are read as which statements, each in one way, and which answers a
+/// statement has over a database, which keep the rules of answers.
 pub trait Language {
     ghost language: { machine.Language };
 
     ghost answer_rules: { AnswerRules language.answers };
+
+    ghost one_reading: { machine.ReadsOneWay language };
 }
 
 /// The laws of the table machine. It does nothing when it is run.

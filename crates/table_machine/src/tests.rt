@@ -6,11 +6,13 @@ use std::test::Fail;
 struct AllBegin;
 
 impl Language for AllBegin {
-    ghost use Rattle.table_machine.specs.Silent.{silent, silent_rules};
+    ghost use Rattle.table_machine.specs.Silent.{silent, silent_reading, silent_rules};
 
     ghost language = { silent };
 
     ghost answer_rules = { silent_rules };
+
+    ghost one_reading = { silent_reading };
 }
 
 #[test]

@@ -29,10 +29,10 @@ pub returns-clause-ok_is_committed : goal.returns-clause-ok_is_committed
 returns-clause-ok_is_committed g c = ok_is_committed g.L.Language.language
 
 pub returns-clause-determined : goal.returns-clause-determined
-returns-clause-determined g c = step_once g.L.Language.language g.L.Language.answer_rules.one
+returns-clause-determined g c = step_once g.L.Language.language g.L.Language.answer_rules.one g.L.Language.one_reading
 
 pub returns-clause-runs_determined : goal.returns-clause-runs_determined
-returns-clause-runs_determined g c = run_once g.L.Language.language g.L.Language.answer_rules.one
+returns-clause-runs_determined g c = run_once g.L.Language.language g.L.Language.answer_rules.one g.L.Language.one_reading
 
 pub returns-clause-serving : goal.returns-clause-serving
 returns-clause-serving g c = serves g.L.Language.language
@@ -47,7 +47,7 @@ pub returns-clause-commit_is_made : goal.returns-clause-commit_is_made
 returns-clause-commit_is_made g c = commit_is_made g.L.Language.language
 
 pub returns-clause-one_serial : goal.returns-clause-one_serial
-returns-clause-one_serial g c = one_serial g.L.Language.language g.L.Language.answer_rules.one
+returns-clause-one_serial g c = one_serial g.L.Language.language g.L.Language.answer_rules.one g.L.Language.one_reading
 
 pub returns-clause-overlaps : goal.returns-clause-overlaps
 returns-clause-overlaps g c = share_none_over g.L.Language.language
