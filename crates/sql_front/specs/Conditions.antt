@@ -1,5 +1,6 @@
 -- The further conditions of statements, and what a CREATE makes.
 use Rattle.std.specs.Prelude.{ℕ, Bool, ◌&&◌, not, List, length, map, nat_lt}
+use Rattle.rm_base.specs.declared.limits.TheConstants.{MAX_COLUMNS}
 use Rattle.std.specs.List.{list_any, position_or_len}
 use Rattle.std.specs.Str.{bytes_eq}
 use Rattle.sql_values.specs.declared.schemas.Schema.{Schema}
@@ -8,7 +9,7 @@ use Rattle.sql_statements.specs.declared.statements.SetItem.{SetItem}
 
 -- a table has at most 16 columns, each with a name of its own
 unfoldable pub is_new_column : List Definition → List ℕ → Bool
-is_new_column before name = nat_lt (length before) 16 && not (list_any (λ d. bytes_eq d.column.name name) before)
+is_new_column before name = nat_lt (length before) MAX_COLUMNS && not (list_any (λ d. bytes_eq d.column.name name) before)
 
 unfoldable pub has_key : List Definition → Bool
 has_key columns = list_any (λ d. d.is_key) columns

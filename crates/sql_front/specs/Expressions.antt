@@ -1,5 +1,6 @@
 -- The grammar of expressions: which symbols are an expression of which level, and what it means.
 use Rattle.std.specs.Prelude.{ℕ, ◌<◌, ◌≤◌, ◌^◌, length, true, false, List, [], ◌∷◌, ◌++◌, Some, None, pos, neg_ℤ}
+use Rattle.rm_base.specs.declared.limits.TheConstants.{MAX_STATEMENT_TOKENS}
 use Rattle.sql_values.specs.declared.values.Value.TheVariants as value
 use Rattle.sql_words.specs.declared.reserved.Word.TheVariants as w
 use Rattle.sql_words.specs.declared.signs.Sign.TheVariants as s
@@ -78,4 +79,4 @@ pub data Means : Part → Input → Expr → Type 0 where
 
 -- an expression has at most 256 symbols
 abbrev pub an_expression : Rule Expr
-an_expression k i x = Means (row level.Or) i x × (256 < k → length i ≤ 256)
+an_expression k i x = Means (row level.Or) i x × (MAX_STATEMENT_TOKENS < k → length i ≤ MAX_STATEMENT_TOKENS)

@@ -1,6 +1,7 @@
 -- How expressions are read, by levels. The number bounds how deep they nest and how many operators stand in a
 -- row; it is no less than the symbols that are left, so it never runs out first.
 use Rattle.std.specs.Prelude.{ℕ, zero, suc, Bool, true, false, ◌&&◌, ◌||◌, if◌then◌else◌, List, [], ◌∷◌, ◌++◌, take, drop, Option, Some, None, Ok, Err, is_some}
+use Rattle.rm_base.specs.declared.limits.TheConstants.{MAX_STATEMENT_TOKENS}
 use Rattle.sql_values.specs.declared.values.Value.TheVariants as value
 use Rattle.sql_words.specs.declared.reserved.Word.TheVariants as w
 use Rattle.sql_words.specs.declared.signs.Sign.TheVariants as s
@@ -145,4 +146,4 @@ limited (Err i) beyond = Err (i ++ beyond)
 
 -- an expression of at most 256 symbols; the 257th is refused where it would go on with one
 unfoldable pub expression : Reader Expr
-expression i = limited (whole 256 (take 256 i)) (drop 256 i)
+expression i = limited (whole MAX_STATEMENT_TOKENS (take MAX_STATEMENT_TOKENS i)) (drop MAX_STATEMENT_TOKENS i)

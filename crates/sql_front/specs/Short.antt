@@ -1,5 +1,6 @@
 -- Statements whose printed form keeps the limits.
 use Rattle.std.specs.Prelude.{◌≤◌, List, [], ◌∷◌, length, Option, Some, None}
+use Rattle.rm_base.specs.declared.limits.TheConstants.{MAX_STATEMENT_BYTES, MAX_STATEMENT_TOKENS}
 use Rattle.sql_statements.specs.declared.expressions.Expr.{Expr}
 use Rattle.sql_statements.specs.declared.statements.Agg.{Agg}
 use Rattle.sql_statements.specs.declared.statements.Agg.TheVariants as agg
@@ -12,7 +13,7 @@ use Rattle.sql_front.specs.Printed.{expr_symbols, printed}
 
 -- an expression of at most 256 tokens as it is printed
 abbrev pub IsShort : Expr → Type 0
-IsShort x = length (expr_symbols x) ≤ 256
+IsShort x = length (expr_symbols x) ≤ MAX_STATEMENT_TOKENS
 
 abbrev pub AllOf : {X : Type 0} → (X → Type 0) → List X → Type 0
 AllOf P [] = Unit {0}
@@ -51,4 +52,4 @@ AreShort stmt.Rollback = Unit {0}
 
 -- printed, a statement keeps the limits of a text and of its expressions
 abbrev pub KeepsLimits : Stmt → Type 0
-KeepsLimits x = AreShort x × (length (printed x) ≤ 65536)
+KeepsLimits x = AreShort x × (length (printed x) ≤ MAX_STATEMENT_BYTES)
