@@ -160,3 +160,8 @@ pub record IsRootSplit (path : List Image) (meta : Image) (plan : Plan) : Type 0
   pub at : ℕ
   pub place : IsSplitPlace (page_on path 0).items at
   pub plan_is : plan ≡ root_split_plan (page_on path 0) at meta
+
+-- the plan splits the first page with too little room: the root, where that is the one, or one below it
+abbrev pub IsSplitOf : Bool → LeafItem → List Image → Image → Plan → Type 0
+IsSplitOf true item path meta plan = IsRootSplit path meta plan
+IsSplitOf false item path meta plan = IsSplit item path meta plan

@@ -1,5 +1,5 @@
 //! Plans that change one item of a leaf.
-ghost use Rattle.std.specs.Prelude.{◌≡◌, ◌≤◌, ◌-◌, [], ◌∷◌, ◌++◌, ◌↔◌, length, IsOk, OnOk, IfOk, IfErr};
+ghost use Rattle.std.specs.Prelude.{◌≡◌, ◌≤◌, ◌-◌, [], ◌∷◌, ◌++◌, ◌↔◌, length, true, IsOk, OnOk, IfOk, IfErr};
 ghost use Rattle.page_image.specs.Image.{used};
 ghost use Rattle.page_view.specs.Leaf.{IsLeaf, leaf_bytes};
 ghost use Rattle.tree_change.specs.Places.{HasKey, leaf_on};
@@ -135,7 +135,7 @@ pub fn plan_update(
     replace_in(alloc, leaf, item)
 }
 
-/// The plan that marks the item with the key as deleted: the item that is handed in, which says so, takes
+/// The plan that marks the item with the key as deleted: the item that is handed in, which is deleted, takes
 /// its place. NoRoom exactly where it does not fit.
 pub fn plan_mark(
     alloc: Global,
@@ -145,6 +145,7 @@ pub fn plan_mark(
 ) -> Result<Result<Plan, TreeNo>, WantOfMemory>
     requires way { IsWayTo item.now.key path.now }
     requires item { IsLeaf item.now }
+    requires deleted { item.now.deleted ≡ true }
     requires there { HasKey item.now.key (leaf_on path.now) }
     ensures room { IfOk result (λ answer. IsOk answer ↔ (size_of item.now ≤ room_for item.now.key (leaf_on path.now))) }
     ensures no { IfOk result (λ answer. IfErr answer (λ no. no ≡ TreeNo.NoRoom)) }

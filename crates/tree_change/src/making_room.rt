@@ -6,7 +6,7 @@ ghost use Rattle.tree_change.specs.Places.{page_on};
 ghost use Rattle.tree_change.specs.Room.{lacks_room};
 ghost use Rattle.tree_change.specs.Way.{IsWayTo};
 ghost use Rattle.tree_change.specs.Effects.{Keeps};
-ghost use Rattle.tree_change.specs.Splits.{HaveRoom, SpaceFor};
+ghost use Rattle.tree_change.specs.Splits.{HaveRoom, IsRootSplit, IsSplitOf, SpaceFor};
 
 use crate::places::root_of;
 use crate::root_splitting::plan_root_split;
@@ -31,6 +31,7 @@ fn split_of_root(
     ensures room { IfOk result (λ answer. IsOk answer ↔ (((page_on path.now 0).level < 8) × (page_count meta.now + 1 ≤ MAX_PAGE_ID))) }
     ensures no { IfOk result (λ answer. IfErr answer (λ no. no ≡ TreeNo.SpaceFull)) }
     ensures keeps { IfOk result (λ answer. IfOk answer (λ plan. Keeps item.now.key path.now meta.now plan)) }
+    ensures plan { IfOk result (λ answer. IfOk answer (λ plan. IsRootSplit path.now meta.now plan)) }
 {
     if root_of(path).level() < 8 {
         plan_root_split(alloc, path, meta, item)
@@ -56,6 +57,8 @@ pub fn plan_room(
         ↔ SpaceFor (lacks_room item.now (page_on path.now 0)) (page_on path.now 0) (page_count meta.now))) }
     ensures no { IfOk result (λ split. IfSome split (λ answer. IfErr answer (λ no. no ≡ TreeNo.SpaceFull))) }
     ensures keeps { IfOk result (λ split. IfSome split (λ answer. IfOk answer (λ plan. Keeps item.now.key path.now meta.now plan))) }
+    ensures plan { IfOk result (λ split. IfSome split (λ answer. IfOk answer (λ plan.
+        IsSplitOf (lacks_room item.now (page_on path.now 0)) item.now path.now meta.now plan))) }
 {
     match first_full(path.as_slice(), item) {
         None => Ok(None),
