@@ -1,4 +1,4 @@
--- A tree of keys over pages. Pages are a function of their numbers, whoever keeps them.
+-- Stated: A tree of keys over pages. Pages are a function of their numbers, whoever keeps them.
 use Rattle.std.specs.Prelude.{◌≡◌, ◌≢◌, ◌≤◌, ◌<◌, ℕ, zero, suc, Bool, true, false, List, [], ◌∷◌, ◌++◌, length, map, filter, slice_get, Option, Some, None, nat_eq, ⊤}
 use Rattle.rm_base.specs.declared.limits.TheConstants.{MAX_KEY_BYTES}
 use Rattle.std.specs.List.{AllByRecursion, IsDistinct}

@@ -1,4 +1,4 @@
--- How a search goes over pages that are handed to it: down to the leaf of a key, and along the leaves.
+-- Stated: how a search goes over pages that are handed to it: down to the leaf of a key, and along the leaves.
 use Rattle.std.specs.Prelude.{◌≡◌, ◌≤◌, ◌<◌, ◌+◌, ◌-◌, ◌==◌, ◌||◌, ◌&&◌, ◌⊎◌, ℕ, Bool, true, false, not, List, [], ◌∷◌, length, map, slice_get, Option, Some, None, nat_le, if◌then◌else◌, ⊤}
 use Rattle.rm_base.specs.declared.limits.TheConstants.{MAX_PAGES, MAX_TREE_LEVEL}
 use Rattle.std.specs.List.{AllByRecursion}

@@ -1,4 +1,4 @@
--- Bytes cut into chunks of one size.
+-- Stated: bytes cut into chunks of one size.
 use Rattle.std.specs.Prelude.{◌≡◌, ◌<◌, ℕ, List, length}
 use Rattle.rm_base.specs.declared.limits.TheConstants.{LOG_CHUNK_BYTES}
 use Rattle.std.specs.List.{AllByRecursion}

@@ -1,4 +1,4 @@
--- Any list of appends and fences.
+-- Stated: any list of appends and fences.
 use Rattle.std.specs.Prelude.{◌≡◌, ◌≤◌, ℕ, true, List, [], ◌∷◌, ◌++◌, length, if◌then◌else◌}
 use Rattle.message_model.specs.declared.Appended.{Appended}
 use Rattle.redo_record.specs.declared.redo.Group.{Group}

@@ -1,4 +1,4 @@
--- A log with its epoch, and what an append to it does.
+-- Stated: A log with its epoch, and what an append to it does.
 use Rattle.std.specs.Prelude.{◌≡◌, ◌+◌, ℕ, Bool, true, false, List, ◌++◌, length, nat_lt, ◌==◌, if◌then◌else◌}
 use Rattle.message_model.specs.declared.Appended.{Appended}
 use Rattle.message_model.specs.declared.Appended.TheVariants.{Kept, WrongOffset, Fenced}

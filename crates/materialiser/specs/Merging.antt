@@ -1,4 +1,4 @@
--- Which groups bring a base image forward.
+-- Stated: which groups bring a base image forward.
 use Rattle.std.specs.Prelude.{ℕ, List}
 use Rattle.redo_record.specs.declared.redo.Group.{Group}
 use Rattle.redo_record.specs.Effect.{past, up_to}

@@ -1,4 +1,4 @@
--- Which of a page's images stands for an LSN.
+-- Stated: which of a page's images stands for an LSN.
 use Rattle.std.specs.Prelude.{◌≡◌, ◌≤◌, ◌<◌, ℕ, suc, List, Option, Some, slice_get, MatchOption}
 use Rattle.page_image.specs.Image.{Image}
 

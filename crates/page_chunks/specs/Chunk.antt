@@ -1,4 +1,4 @@
--- A chunk of pages as its callers see it.
+-- Stated: A chunk of pages as its callers see it.
 use Rattle.std.specs.Prelude.{◌≡◌, ◌≤◌, ◌<◌, ◌+◌, ◌-◌, ◌*◌, ℕ, List, length, nat_lt, if◌then◌else◌}
 use Rattle.rm_base.specs.declared.limits.TheConstants.{PAGES_PER_CHUNK}
 use Rattle.page_image.specs.Image.{Image}

@@ -1,4 +1,4 @@
--- What a chunk keeps of one page: a base image and the records that are not folded into it.
+-- Stated: what a chunk keeps of one page: a base image and the records that are not folded into it.
 use Rattle.std.specs.Prelude.{◌≡◌, ◌≤◌, ◌<◌, ◌+◌, ℕ, List, [], ◌∷◌, ◌++◌, length, None, unwrap_or, slice_index_or, ◌==◌, if◌then◌else◌}
 use Rattle.page_image.specs.Image.{Image, unmade}
 use Rattle.redo_record.specs.declared.redo.Record.{Record}

@@ -1,4 +1,4 @@
--- Any list of ships and folds.
+-- Stated: any list of ships and folds.
 use Rattle.std.specs.Prelude.{◌≡◌, ℕ, List, [], ◌∷◌}
 use Rattle.redo_record.specs.declared.redo.Group.{Group}
 use Rattle.page_chunks.specs.Chunk.{Chunk, InChunk, CanShip, IsShipped, AnswersSame}

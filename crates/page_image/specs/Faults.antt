@@ -1,4 +1,4 @@
--- Where bytes break the rules of a page: at the first of them, in the order in which the rules stand here.
+-- Stated: where bytes break the rules of a page: at the first of them, in the order in which the rules stand here.
 use Rattle.std.specs.Prelude.{◌==◌, ◌&&◌, ◌||◌, ℕ, zero, suc, ◌+◌, ◌-◌, ◌*◌, Bool, List, [], ◌∷◌, length, Option, None, Some, slice_index, nat_lt, nat_le, if◌then◌else◌}
 use Rattle.rm_base.specs.declared.limits.TheConstants.{MAX_PAGE_ID, PAGE_BYTES, PAGE_HEADER_BYTES}
 use Rattle.std.specs.Option.{option_or, option_map}

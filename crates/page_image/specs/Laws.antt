@@ -1,4 +1,4 @@
--- The laws of pages and their images.
+-- Stated: the laws of pages and their images.
 use Rattle.std.specs.Prelude.{◌≡◌, ◌↔◌, ℕ, List, None}
 use Rattle.rm_base.specs.Fields.{AreBytes}
 use Rattle.page_image.specs.Image.{Image}

@@ -1,4 +1,4 @@
--- How a page lies in its bytes: its header, and its slots and items or its body.
+-- Stated: how a page lies in its bytes: its header, and its slots and items or its body.
 use Rattle.std.specs.Prelude.{◌==◌, ◌+◌, ◌-◌, ◌*◌, ℕ, zero, suc, List, [], ◌∷◌, ◌++◌, length, drop, slice_index, slice_range, if◌then◌else◌}
 use Rattle.rm_base.specs.declared.limits.TheConstants.{PAGE_BYTES, PAGE_HEADER_BYTES}
 use Rattle.rm_base.specs.Fields.{field, number}

@@ -1,4 +1,4 @@
--- What a page is after bytes of its body were lent.
+-- Stated: what a page is after bytes of its body were lent.
 use Rattle.std.specs.Prelude.{◌≡◌, ◌≤◌, ℕ, ◌+◌, ◌-◌, true, List, ◌++◌, length, take, drop}
 use Rattle.rm_base.specs.declared.limits.TheConstants.{PAGE_BYTES, PAGE_HEADER_BYTES}
 use Rattle.std.specs.Borrow.{Lends, MutBor, Fml, Array, u8}

@@ -1,4 +1,4 @@
--- What the small steps of a change need to know.
+-- For the proofs: what the small steps of a change need to know.
 use Rattle.std.specs.Prelude.{◌≡◌, ◌≤◌, ℕ, List, length}
 use Rattle.rm_base.specs.declared.limits.TheConstants.{PAGE_BYTES}
 use Rattle.page_image.specs.Layout.{packed, slot_bytes}

@@ -1,4 +1,4 @@
--- The rules that every page keeps.
+-- Stated: the rules that every page keeps.
 use Rattle.std.specs.Prelude.{◌≡◌, ◌≤◌, ◌<◌, ◌+◌, ◌-◌, ◌*◌, ◌^◌, ◌↔◌, ℕ, true, false, List, [], length, drop, All, Some, slice_get, slice_range}
 use Rattle.rm_base.specs.declared.limits.TheConstants.{MAX_PAGE_ID, PAGE_BYTES, PAGE_HEADER_BYTES}
 use Rattle.rm_base.specs.Fields.{number}

@@ -1,4 +1,4 @@
--- The pages in memory, each as it is kept and with its changes.
+-- Stated: the pages in memory, each as it is kept and with its changes.
 use Rattle.std.specs.Prelude.{◌≡◌, ◌<◌, ℕ, List, length, None, IsSome, All, Contains, unwrap_or, slice_index_or, is_some, if◌then◌else◌}
 use Rattle.page_image.specs.Image.{Image, unmade, Follows}
 use Rattle.redo_record.specs.declared.redo.Record.{Record}

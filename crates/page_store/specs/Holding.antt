@@ -1,4 +1,4 @@
--- Pages in memory that are those of a log.
+-- Stated: pages in memory that are those of a log.
 use Rattle.std.specs.Prelude.{◌≡◌, ℕ, List}
 use Rattle.page_image.specs.Image.{unmade}
 use Rattle.redo_record.specs.Effect.{after_groups}

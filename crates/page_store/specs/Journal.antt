@@ -1,4 +1,4 @@
--- A log as bytes, of which the first are kept.
+-- Stated: A log as bytes, of which the first are kept.
 use Rattle.std.specs.Prelude.{◌≡◌, ℕ, zero, suc, List, [], ◌∷◌, ◌++◌, length, drop, Result, Ok, Err}
 use Rattle.redo_record.specs.declared.redo.Group.{Group}
 use Rattle.redo_record.specs.Spelling.{Spells}

@@ -1,4 +1,4 @@
--- The groups of a log, of which the last can still be given back, and the pages that they leave.
+-- Stated: the groups of a log, of which the last can still be given back, and the pages that they leave.
 use Rattle.std.specs.Prelude.{◌+◌, ℕ, List, [], ◌∷◌, ◌++◌, length}
 use Rattle.page_image.specs.Image.{Image, unmade}
 use Rattle.redo_record.specs.declared.redo.Record.{Record}

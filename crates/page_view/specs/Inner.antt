@@ -1,4 +1,4 @@
--- An inner item and its bytes.
+-- Stated: an inner item and its bytes.
 use Rattle.std.specs.Prelude.{◌≡◌, ◌≤◌, ◌+◌, ℕ, List, ◌∷◌, ◌++◌, length, take, drop, slice_index, Option, MatchOption}
 use Rattle.rm_base.specs.declared.limits.TheConstants.{MAX_PAGE_ID}
 use Rattle.rm_base.specs.Fields.{field, number}

@@ -1,4 +1,4 @@
--- The keys of a page's items, and where a key stands among them.
+-- Stated: the keys of a page's items, and where a key stands among them.
 use Rattle.std.specs.Prelude.{◌≡◌, ◌≢◌, ◌≤◌, ◌<◌, ◌+◌, ℕ, List, length, take, drop, map, slice_index, slice_index_or, slice_get, Some, [], Result, MatchResult}
 use Rattle.std.specs.declared.cmp.Ordering.{Ordering}
 use Rattle.std.specs.declared.cmp.Ordering.TheVariants.{Less, Greater}

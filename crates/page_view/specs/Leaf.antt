@@ -1,4 +1,4 @@
--- A leaf item and its bytes.
+-- Stated: A leaf item and its bytes.
 use Rattle.std.specs.Prelude.{◌≡◌, ◌≤◌, ◌<◌, ◌+◌, ◌^◌, ◌==◌, ℕ, List, ◌∷◌, ◌++◌, length, take, drop, slice_index, Option, MatchOption, if◌then◌else◌}
 use Rattle.rm_base.specs.declared.limits.TheConstants.{MAX_KEY_BYTES, MAX_RECORD_BYTES, RECORD_OVERHEAD_BYTES}
 use Rattle.rm_base.specs.Fields.{field, number}

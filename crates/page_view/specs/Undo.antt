@@ -1,4 +1,4 @@
--- An undo item and its bytes.
+-- Stated: an undo item and its bytes.
 use Rattle.std.specs.Prelude.{◌≡◌, ◌≤◌, ◌<◌, ◌+◌, ◌^◌, ◌==◌, ℕ, List, ◌∷◌, ◌++◌, length, take, drop, slice_index, Option, Some, None, MatchOption, if◌then◌else◌}
 use Rattle.rm_base.specs.declared.limits.TheConstants.{MAX_KEY_BYTES, MAX_PAGE_ID}
 use Rattle.rm_base.specs.Fields.{field, number}

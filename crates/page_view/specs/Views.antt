@@ -1,4 +1,4 @@
--- What a view lends of a page.
+-- Stated: what a view lends of a page.
 use Rattle.std.specs.Prelude.{◌≡◌, ◌≢◌, ℕ, List, Option, Some, slice_get, MatchOption}
 use Rattle.page_image.specs.declared.kind.Kind.{Kind}
 use Rattle.page_image.specs.Image.{Image}

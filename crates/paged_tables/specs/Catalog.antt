@@ -1,4 +1,4 @@
--- The catalog as a table: a column for a table's name, and one for the text of its schema and its root.
+-- For the proofs: the catalog as a table: a column for a table's name, and one for the text of its schema and its root.
 use Rattle.std.specs.Prelude.{ℕ, List, [], ◌∷◌, codes}
 use Rattle.sql_values.specs.declared.values.Sort.TheVariants as sort
 use Rattle.sql_values.specs.declared.schemas.Column.{Column}

@@ -1,4 +1,4 @@
--- What a change of a row makes of the items of its table's tree.
+-- For the proofs: what a change of a row makes of the items of its table's tree.
 use Rattle.std.specs.Prelude.{ℕ, List}
 use Rattle.std.specs.Option.{option_map_or}
 use Rattle.tree_change.specs.Effects.{with_item, without_item}

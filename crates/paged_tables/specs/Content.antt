@@ -1,4 +1,4 @@
--- The database that the pages hold.
+-- Stated: the database that the pages hold.
 use Rattle.std.specs.Prelude.{◌≡◌, ◌≢◌, ℕ, List, codes, Some, None, Contains, option_map}
 use Rattle.rm_base.specs.declared.limits.TheConstants.{CATALOG_ROOT_PAGE_ID}
 use Rattle.std.specs.List.{AllByRecursion}

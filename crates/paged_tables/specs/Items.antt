@@ -1,4 +1,4 @@
--- Rows and tables as the items of trees.
+-- Stated: rows and tables as the items of trees.
 use Rattle.std.specs.Prelude.{ℕ, false, List, map, find, bytes_eq, Option}
 use Rattle.sql_values.specs.declared.schemas.Schema.{Schema}
 use Rattle.sql_values.specs.declared.values.Value.{Value}

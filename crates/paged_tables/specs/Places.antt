@@ -1,4 +1,4 @@
--- Where the keys of a range begin and end among the keys of a leaf.
+-- For the proofs: where the keys of a range begin and end among the keys of a leaf.
 use Rattle.std.specs.Prelude.{◌≡◌, ◌≤◌, ℕ, List, length, Option, Some, None}
 use Rattle.page_view.specs.Keys.{LessBelow, GreaterFrom}
 

@@ -1,4 +1,4 @@
--- What a decoding function of the program gives, beside what decoding gives.
+-- Stated: what a decoding function of the program gives, beside what decoding gives.
 use Rattle.std.specs.Prelude.{◌≡◌, List, ℕ, Result, Ok, Err}
 use Rattle.redo_record.specs.declared.redo.Group.{Group}
 use Rattle.redo_record.specs.declared.decoding.BadRecord.{BadRecord}

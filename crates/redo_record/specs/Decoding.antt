@@ -1,4 +1,4 @@
--- Reading the group at the front of the bytes. A refusal carries an offset from the group's start.
+-- Stated: reading the group at the front of the bytes. A refusal carries an offset from the group's start.
 use Rattle.std.specs.Prelude.{ℕ, zero, suc, ◌-◌, Bool, List, [], ◌∷◌, length, Result, Ok, Err, ok_or, nat_le, ◌==◌, ◌&&◌, if◌then◌else◌}
 use Rattle.redo_record.specs.declared.redo.Record.{Record}
 use Rattle.redo_record.specs.declared.redo.Group.{Group}

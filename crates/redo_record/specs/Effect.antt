@@ -1,4 +1,4 @@
--- What records do to a page, and the page that a log leaves.
+-- Stated: what records do to a page, and the page that a log leaves.
 use Rattle.std.specs.Prelude.{◌≡◌, ◌≤◌, ◌<◌, ◌+◌, ℕ, Bool, false, List, [], ◌∷◌, filter, nat_lt, nat_le, ◌==◌, if◌then◌else◌}
 use Rattle.std.specs.List.{list_any, AllByRecursion}
 use Rattle.page_image.specs.Image.{Image, unmade, CanMake, made, CanPatch, patched, CanInsert, inserted, CanRemove, removed, CanCut, cut_from, CanLink, linked}

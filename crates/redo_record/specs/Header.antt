@@ -1,4 +1,4 @@
--- What stands before a group's records.
+-- Stated: what stands before a group's records.
 use Rattle.std.specs.Prelude.{◌≤◌, ◌-◌, ℕ, List, length, take, drop}
 use Rattle.rm_base.specs.Fields.{number}
 

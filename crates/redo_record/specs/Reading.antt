@@ -1,4 +1,4 @@
--- Reading fields and records from left to right. Each word gives what it read and the bytes after it, or none.
+-- Stated: reading fields and records from left to right. Each word gives what it read and the bytes after it, or none.
 use Rattle.std.specs.Prelude.{ℕ, ◌-◌, Bool, List, [], ◌∷◌, length, take, drop, Option, Some, None, option_and_then, nat_lt, nat_le, ◌==◌, ◌&&◌, if◌then◌else◌}
 use Rattle.rm_base.specs.declared.limits.TheConstants.{MAX_PAGE_ID, PAGE_BYTES, PAGE_HEADER_BYTES}
 use Rattle.rm_base.specs.Fields.{number}

@@ -1,4 +1,4 @@
--- What a reader of the program gives, beside what reading gives.
+-- Stated: what a reader of the program gives, beside what reading gives.
 use Rattle.std.specs.Prelude.{◌≡◌, List, ℕ, Option, Some, None, Result, Ok, Err}
 use Rattle.redo_record.specs.declared.reader.Malformed.{Malformed}
 use Rattle.redo_record.specs.declared.reader.Unread.{Unread}

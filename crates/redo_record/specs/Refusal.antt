@@ -1,4 +1,4 @@
--- Where bytes are refused, by the grammar alone.
+-- Stated: where bytes are refused, by the grammar alone.
 use Rattle.std.specs.Prelude.{◌≡◌, ◌≢◌, ◌<◌, ◌+◌, ◌⊎◌, ℕ, List, [], ◌++◌, length}
 use Rattle.std.specs.List.{AllByRecursion}
 use Rattle.redo_record.specs.declared.redo.Record.{Record}

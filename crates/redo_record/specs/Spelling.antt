@@ -1,4 +1,4 @@
--- The one spelling of each record, group and log in bytes. Numbers have their highest byte first.
+-- Stated: the one spelling of each record, group and log in bytes. Numbers have their highest byte first.
 use Rattle.std.specs.Prelude.{◌≡◌, ◌≢◌, ◌≤◌, ◌<◌, ◌+◌, ◌-◌, ◌^◌, ℕ, List, [], ◌∷◌, ◌++◌, length, drop}
 use Rattle.rm_base.specs.declared.limits.TheConstants.{MAX_PAGE_ID, PAGE_BYTES, PAGE_HEADER_BYTES}
 use Rattle.std.specs.List.{flat_map, AllByRecursion}

@@ -1,4 +1,4 @@
--- The texts of values, replies and entries.
+-- Stated: the texts of values, replies and entries.
 use Rattle.std.specs.Prelude.{◌<◌, ℕ, ◌+◌, Bool, true, false, if◌then◌else◌, List, [], ◌∷◌, ◌++◌, codes, decimal, length, flat_map, slice_index_or}
 use Rattle.std.specs.List.{AllByRecursion}
 use Rattle.std.specs.Fmt.{signed_decimal}

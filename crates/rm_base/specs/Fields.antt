@@ -1,4 +1,4 @@
--- Numbers of fixed size in bytes, the highest byte first. A list of bytes is a list of numbers below 256.
+-- Stated: numbers of fixed size in bytes, the highest byte first. A list of bytes is a list of numbers below 256.
 use Rattle.std.specs.Prelude.{◌≡◌, ◌≤◌, ◌<◌, ◌+◌, ◌^◌, ℕ, List, ◌++◌, length, take, drop, slice_index}
 use Rattle.std.specs.Ordering.{nat_cmp}
 use Rattle.std.specs.Cmp.Lexicographic.{slice_cmp}

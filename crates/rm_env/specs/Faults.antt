@@ -1,4 +1,4 @@
--- Counts of faults, which stand still at the last value of a u64.
+-- Stated: counts of faults, which stand still at the last value of a u64.
 use Rattle.std.specs.Prelude.{ℕ, ◌+◌, ◌-◌, ◌^◌, ◌≤◌, min}
 
 -- one more, or the last value of a u64

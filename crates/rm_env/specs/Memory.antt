@@ -1,4 +1,4 @@
--- What is known of a source and a sink in memory.
+-- Stated: what is known of a source and a sink in memory.
 use Rattle.std.specs.Prelude.{ℕ, List}
 
 -- A source: the bytes to come, the numbers of the calls that fail, from 1, how many calls there were,

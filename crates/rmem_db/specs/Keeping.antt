@@ -1,4 +1,4 @@
--- The tables that a run leaves, as the log of their changes.
+-- Stated: the tables that a run leaves, as the log of their changes.
 use Rattle.std.specs.Prelude.{◌≡◌, List, [], Option, Some, None}
 use Rattle.page_image.specs.Image.{unmade}
 use Rattle.redo_record.specs.declared.redo.Group.{Group}

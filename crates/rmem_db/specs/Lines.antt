@@ -1,4 +1,4 @@
--- The lines of a text.
+-- Stated: the lines of a text.
 use Rattle.std.specs.Prelude.{◌==◌, ◌||◌, ◌-◌, ℕ, Bool, not, List, length, take, filter}
 use Rattle.std.specs.List.{slice_split, list_all}
 

@@ -1,4 +1,4 @@
--- What a reader of lines holds, and what one read adds.
+-- Stated: what a reader of lines holds, and what one read adds.
 use Rattle.std.specs.Prelude.{◌≡◌, ◌≢◌, ◌<◌, ◌≤◌, ◌+◌, ℕ, List, [], ◌∷◌, ◌++◌, length, slice_index, Option}
 use Rattle.std.specs.Io.KnownBytes.{Consumes, IsAtEnd}
 

@@ -1,4 +1,4 @@
--- The one session, and what a line makes of its tables.
+-- Stated: the one session, and what a line makes of its tables.
 use Rattle.std.specs.Prelude.{◌≡◌, ℕ, is_some, List, Result, Ok}
 use Rattle.sql_statements.specs.declared.statements.Stmt.{Stmt}
 use Rattle.sql_front.specs.Sentences.{Reads}

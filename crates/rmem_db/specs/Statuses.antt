@@ -1,4 +1,4 @@
--- The exit status of each way in which a run ends.
+-- Stated: the exit status of each way in which a run ends.
 use Rattle.std.specs.Prelude.{ℕ}
 use Rattle.rmem_db.specs.declared.status.Status.{Status}
 use Rattle.rmem_db.specs.declared.status.Status.TheVariants.{Done, BadWords, BadScript, ReadFault, WriteFault, TooLong, BadLog, WantOfMemory}

@@ -1,4 +1,4 @@
--- Single output lines, and the text of a run of the table machine.
+-- Stated: single output lines, and the text of a run of the table machine.
 use Rattle.std.specs.Prelude.{ℕ, false, List, [], ◌∷◌, ◌++◌, flat_map}
 use Rattle.sql_database.specs.declared.replies.SqlReply.{SqlReply}
 use Rattle.table_machine.specs.declared.entries.Entry.{Entry}

@@ -1,4 +1,4 @@
--- What a sink has taken of a text when the writing of it stopped.
+-- Stated: what a sink has taken of a text when the writing of it stopped.
 use Rattle.std.specs.Prelude.{◌≡◌, ℕ, List, ◌++◌, Option}
 use Rattle.std.specs.Io.KnownBytes.{Appends}
 

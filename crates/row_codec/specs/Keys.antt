@@ -1,4 +1,4 @@
--- The bytes of a key.
+-- Stated: the bytes of a key.
 use Rattle.std.specs.Prelude.{◌≡◌, ℕ, ℤ, negsuc, ◌-ℤ◌, unsigned_abs, List, [], Some, FitsSigned}
 use Rattle.std.specs.Int.{w64}
 use Rattle.rm_base.specs.Fields.{field}

@@ -1,4 +1,4 @@
--- How a value's bytes are read, cell after cell.
+-- Stated: how a value's bytes are read, cell after cell.
 use Rattle.std.specs.Prelude.{◌+◌, ℕ, ◌&&◌, nat_eq, nat_le, List, [], ◌∷◌, ◌++◌, length, take, drop, negsuc, pos, ◌+ℤ◌, Option, Some, None, option_and_then, if◌then◌else◌, MatchOption}
 use Rattle.std.specs.Int.{w64, cast_signed}
 use Rattle.rm_base.specs.Fields.{number}

@@ -1,4 +1,4 @@
--- A row as a leaf item's key and value.
+-- Stated: A row as a leaf item's key and value.
 use Rattle.std.specs.Prelude.{◌≡◌, ◌≢◌, ◌≤◌, ◌+◌, ℕ, Bool, nat_le, List, [], ◌∷◌, ◌++◌, length, slice_get, slice_index_or, take, drop, IsSomeAnd, FitsSigned}
 use Rattle.rm_base.specs.declared.limits.TheConstants.{MAX_KEY_BYTES, MAX_RECORD_BYTES, RECORD_OVERHEAD_BYTES}
 use Rattle.std.specs.List.{flat_map}

@@ -1,4 +1,4 @@
--- A table as a row of the catalog.
+-- Stated: A table as a row of the catalog.
 use Rattle.std.specs.Prelude.{◌≡◌, ◌≢◌, ◌≤◌, ◌<◌, ℕ, List, [], ◌∷◌, ◌++◌, length, drop, Option, MatchOption}
 use Rattle.rm_base.specs.declared.limits.TheConstants.{MAX_PAGE_ID}
 use Rattle.std.specs.List.{AllByRecursion, flat_map}

@@ -1,4 +1,4 @@
--- What a statement makes of a store of tables.
+-- Stated: what a statement makes of a store of tables.
 use Rattle.std.specs.Prelude.{◌≡◌, ◌≢◌, ◌⊎◌, []}
 use Rattle.sql_statements.specs.declared.statements.Stmt.{Stmt}
 use Rattle.sql_statements.specs.declared.statements.Stmt.TheVariants as stmt

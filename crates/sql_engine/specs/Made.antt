@@ -1,4 +1,4 @@
--- The changes that a statement wants, and what is known of them before their INTs are read.
+-- Stated: the changes that a statement wants, and what is known of them before their INTs are read.
 use Rattle.std.specs.Prelude.{◌≡◌, ◌≤◌, ℕ, List, length, Option, Some, None}
 use Rattle.rm_base.specs.declared.limits.TheConstants.{MAX_KEY_BYTES, MAX_RECORD_BYTES}
 use Rattle.sql_values.specs.declared.schemas.Schema.{Schema}

@@ -1,4 +1,4 @@
--- The schemas and the rows that a statement is answered from.
+-- Stated: the schemas and the rows that a statement is answered from.
 use Rattle.std.specs.Prelude.{◌≡◌, ℕ, List, [], ◌∷◌, map, filter, flat_map, Some, None, option_map, option_to_list}
 use Rattle.std.specs.Option.{option_map_or}
 use Rattle.rm_base.specs.declared.key_range.KeyRange.{KeyRange}

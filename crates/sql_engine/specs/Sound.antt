@@ -1,12 +1,11 @@
--- What holds of each database that a store has, and what can be changed in one.
+-- Stated: what holds of each database that a store has, and what can be changed in one.
 use Rattle.std.specs.Prelude.{◌≡◌, ◌≢◌, ◌≤◌, ℕ, List, codes, length, Option, Some, None}
 use Rattle.rm_base.specs.declared.limits.TheConstants.{MAX_KEY_BYTES}
 use Rattle.std.specs.List.{AllByRecursion}
 use Rattle.sql_values.specs.declared.schemas.Schema.{Schema}
 use Rattle.sql_values.specs.declared.values.Value.{Value}
 use Rattle.row_codec.specs.Records.{AreI64, FitsSchema, IsRecord, value_bytes}
-use Rattle.sql_values.specs.Tables.{IsName, IsNamed, IsTable}
-use Rattle.sql_meaning.specs.Names.{table_named}
+use Rattle.sql_values.specs.Tables.{IsName, IsNamed, IsTable, table_named}
 use Rattle.sql_database.specs.declared.changes.Change.{Change}
 use Rattle.sql_database.specs.Database.{Database}
 

@@ -1,8 +1,7 @@
 ghost use Rattle.std.specs.Prelude.{◌≡◌, ◌≢◌, ◌∷◌, IfOk, IsErr, IsOk, OnErr, OnOk, None, [], fold, length};
 ghost use Rattle.std.specs.List.{AllByRecursion};
 ghost use Rattle.row_codec.specs.Records.{AreI64};
-ghost use Rattle.sql_values.specs.Tables.{IsName, IsNamed};
-ghost use Rattle.sql_meaning.specs.Names.{table_named};
+ghost use Rattle.sql_values.specs.Tables.{IsName, IsNamed, table_named};
 ghost use Rattle.sql_database.specs.Database.{Database};
 ghost use Rattle.sql_database.specs.Applied.{with_row, with_table};
 ghost use Rattle.sql_engine.specs.Made.{Suits};

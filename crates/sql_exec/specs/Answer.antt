@@ -1,4 +1,4 @@
--- What a statement answers over given rows.
+-- Stated: what a statement answers over given rows.
 use Rattle.std.specs.Prelude.{◌≡◌, ℕ, ℤ, Bool, false, is_some, if◌then◌else◌, List, [], ◌∷◌, length, Option, Some, None, Result, Ok, Err, option_map, MatchOption}
 use Rattle.std.specs.List.{list_any}
 use Rattle.std.specs.Option.{option_map_or}

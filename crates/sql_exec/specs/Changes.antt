@@ -1,4 +1,4 @@
--- Changes of rows, and the keys that they need.
+-- Stated: changes of rows, and the keys that they need.
 use Rattle.std.specs.Prelude.{ℕ, Bool, ◌&&◌, nat_le, if◌then◌else◌, List, [], ◌∷◌, ◌++◌, map, length, Option, Some, None, Result, Ok, Err}
 use Rattle.rm_base.specs.declared.limits.TheConstants.{MAX_KEY_BYTES}
 use Rattle.std.specs.List.{list_any}

@@ -1,4 +1,4 @@
--- What MIN and MAX answer.
+-- Stated: what MIN and MAX answer.
 use Rattle.std.specs.Prelude.{◌≡◌, false, List, Ok, IsOkAnd}
 use Rattle.std.specs.Bool.{MatchBool}
 use Rattle.std.specs.List.{Contains, list_all}

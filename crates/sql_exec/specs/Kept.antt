@@ -1,4 +1,4 @@
--- Rows under a test, and values of rows, or that one of them overflows.
+-- Stated: rows under a test, and values of rows, or that one of them overflows.
 use Rattle.std.specs.Prelude.{List, [], ◌∷◌, ◌++◌, map, slice_set, Option, Some, None, Result, Ok, Err}
 use Rattle.sql_values.specs.declared.arithmetic.Overflow.{Overflow}
 use Rattle.sql_values.specs.declared.logic.Truth.{Truth}

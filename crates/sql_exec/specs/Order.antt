@@ -1,4 +1,4 @@
--- The order of ORDER BY.
+-- Stated: the order of ORDER BY.
 use Rattle.std.specs.Prelude.{ℕ, ℤ, pos, negsuc, if◌then◌else◌, List, [], ◌∷◌, take, Option, Some, None, IsPermutation, IsSorted}
 use Rattle.std.specs.List.Sorted.{IsStable}
 use Rattle.std.specs.declared.cmp.Ordering.{Ordering}

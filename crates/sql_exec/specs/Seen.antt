@@ -1,4 +1,4 @@
--- Keys in a set.
+-- Stated: keys in a set.
 use Rattle.std.specs.Prelude.{◌≡◌, List}
 use Rattle.std.specs.declared.cmp.Ordering.{Ordering}
 use Rattle.std.specs.Ordering.{on}

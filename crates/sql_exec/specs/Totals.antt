@@ -1,4 +1,4 @@
--- Values over all rows.
+-- Stated: values over all rows.
 use Rattle.std.specs.Prelude.{ℕ, ℤ, pos, ◌+ℤ◌, if◌then◌else◌, Bool, true, false, not, List, length, count_by, fold, Result, Ok}
 use Rattle.std.specs.List.{list_all}
 use Rattle.std.specs.Ordering.{is_lt, is_gt}

@@ -1,4 +1,4 @@
--- Whole tables, and the rows that a statement does not need of them.
+-- Stated: whole tables, and the rows that a statement does not need of them.
 use Rattle.std.specs.Prelude.{◌≡◌, ◌≢◌, ◌⊎◌, ℕ, Bool, flat_map, filter, ◌++◌, false, List, [], ◌∷◌, map, Option, option_map, Ok}
 use Rattle.std.specs.List.{list_any}
 use Rattle.std.specs.Option.{option_map_or}

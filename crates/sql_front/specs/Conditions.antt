@@ -1,4 +1,4 @@
--- The further conditions of statements, and what a CREATE makes.
+-- Stated: the further conditions of statements, and what a CREATE makes.
 use Rattle.std.specs.Prelude.{ℕ, Bool, ◌&&◌, not, List, length, map, nat_lt}
 use Rattle.rm_base.specs.declared.limits.TheConstants.{MAX_COLUMNS}
 use Rattle.std.specs.List.{list_any, position_or_len}

@@ -1,4 +1,4 @@
--- The tables that statements make.
+-- Stated: the tables that statements make.
 use Rattle.std.specs.Prelude.{◌≢◌, ℕ, List}
 use Rattle.sql_values.specs.declared.schemas.Schema.{Schema}
 use Rattle.sql_values.specs.Tables.{IsTable}

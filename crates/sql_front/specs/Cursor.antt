@@ -1,4 +1,4 @@
--- The tokens from one place up to another.
+-- Stated: the tokens from one place up to another.
 use Rattle.std.specs.Prelude.{ℕ, ◌≤◌, List, map, length, take, drop}
 use Rattle.sql_words.specs.Lexed.{Lexed}
 use Rattle.sql_front.specs.Good.{AreGood}

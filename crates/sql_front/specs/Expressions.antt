@@ -1,4 +1,4 @@
--- The grammar of expressions: which symbols are an expression of which level, and what it means.
+-- Stated: the grammar of expressions: which symbols are an expression of which level, and what it means.
 use Rattle.std.specs.Prelude.{ℕ, ◌<◌, ◌≤◌, ◌^◌, length, true, false, List, [], ◌∷◌, ◌++◌, Some, None, pos, neg_ℤ}
 use Rattle.rm_base.specs.declared.limits.TheConstants.{MAX_STATEMENT_TOKENS}
 use Rattle.sql_values.specs.declared.values.Value.TheVariants as value

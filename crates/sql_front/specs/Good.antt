@@ -1,4 +1,4 @@
--- What every token of a text keeps.
+-- Stated: what every token of a text keeps.
 use Rattle.std.specs.Prelude.{◌≡◌, ℕ, ◌<◌, ◌≤◌, ◌^◌, true, List, [], ◌∷◌, length}
 use Rattle.std.specs.List.{list_all}
 use Rattle.sql_words.specs.declared.tokens.Class.{Class}

@@ -1,4 +1,4 @@
--- The grammar of statements, and what each statement means.
+-- Stated: the grammar of statements, and what each statement means.
 use Rattle.std.specs.Prelude.{ℕ, ℤ, List, [], length, Option, Some, None, Bool, true, false}
 use Rattle.sql_values.specs.declared.values.Sort.{Sort}
 use Rattle.sql_values.specs.declared.values.Sort.TheVariants as sort

@@ -1,4 +1,4 @@
--- Readers: each takes what is left of a statement and answers a value and what is left behind it, or what is
+-- Stated: readers: each takes what is left of a statement and answers a value and what is left behind it, or what is
 -- left where it refuses.
 use Rattle.std.specs.Prelude.{◌≡◌, ℕ, zero, suc, Bool, true, if◌then◌else◌, List, [], ◌∷◌, ◌++◌, length, Result, Ok, Err, ℤ, pos, neg_ℤ, nat_lt}
 use Rattle.sql_front.specs.declared.stopping.Stop.{Stop}

@@ -1,4 +1,4 @@
--- The printed form of statements: first as symbols, and then as text with a space between two of them.
+-- Stated: the printed form of statements: first as symbols, and then as text with a space between two of them.
 use Rattle.std.specs.Prelude.{ℕ, suc, ◌+◌, Bool, true, false, not, nat_eq, List, [], ◌∷◌, ◌++◌, Option, Some, None, ℤ, pos, negsuc, decimal}
 use Rattle.std.specs.List.{flat_map}
 use Rattle.sql_values.specs.declared.schemas.Column.{Column}

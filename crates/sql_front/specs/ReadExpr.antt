@@ -1,4 +1,4 @@
--- How expressions are read, by levels. The number bounds how deep they nest and how many operators stand in a
+-- Stated: how expressions are read, by levels. The number bounds how deep they nest and how many operators stand in a
 -- row; it is no less than the symbols that are left, so it never runs out first.
 use Rattle.std.specs.Prelude.{ℕ, zero, suc, Bool, true, false, ◌&&◌, ◌||◌, if◌then◌else◌, List, [], ◌∷◌, ◌++◌, take, drop, Option, Some, None, Ok, Err, is_some}
 use Rattle.rm_base.specs.declared.limits.TheConstants.{MAX_STATEMENT_TOKENS}

@@ -1,4 +1,4 @@
--- How statements are read, part by part.
+-- Stated: how statements are read, part by part.
 use Rattle.std.specs.Prelude.{ℕ, ℤ, Bool, true, false, ◌||◌, if◌then◌else◌, List, [], Option, Some, None, Ok, Err}
 use Rattle.sql_values.specs.declared.values.Sort.{Sort}
 use Rattle.sql_values.specs.declared.values.Sort.TheVariants as sort

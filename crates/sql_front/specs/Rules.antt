@@ -1,4 +1,4 @@
--- Rules of a grammar. A rule says which symbols spell which value, where the further conditions are kept at
+-- Stated: rules of a grammar. A rule says which symbols spell which value, where the further conditions are kept at
 -- the first k of them.
 use Rattle.std.specs.Prelude.{◌≡◌, ℕ, suc, ◌-◌, ◌<◌, ◌⊎◌, Bool, true, List, [], ◌∷◌, ◌++◌, length, Option, Some, None, ◌^◌, ℤ, pos, neg_ℤ}
 use Rattle.sql_words.specs.declared.signs.Sign.TheVariants as s

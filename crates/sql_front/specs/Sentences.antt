@@ -1,4 +1,4 @@
--- Which text is which statement, and where a text is wrong.
+-- Stated: which text is which statement, and where a text is wrong.
 use Rattle.std.specs.Prelude.{◌≡◌, ℕ, ◌<◌, ◌≤◌, nat_lt, min, if◌then◌else◌, List, [], ◌∷◌, ◌++◌, length, map, Option, Some, None, Result, Ok, Err}
 use Rattle.rm_base.specs.declared.limits.TheConstants.{MAX_STATEMENT_BYTES}
 use Rattle.sql_statements.specs.declared.statements.Stmt.{Stmt}

@@ -1,4 +1,4 @@
--- Statements whose printed form keeps the limits.
+-- Stated: statements whose printed form keeps the limits.
 use Rattle.std.specs.Prelude.{◌≤◌, List, [], ◌∷◌, length, Option, Some, None}
 use Rattle.rm_base.specs.declared.limits.TheConstants.{MAX_STATEMENT_BYTES, MAX_STATEMENT_TOKENS}
 use Rattle.sql_statements.specs.declared.expressions.Expr.{Expr}

@@ -1,4 +1,4 @@
--- The symbols of the grammar: what the tokens of a text stand for.
+-- Stated: the symbols of the grammar: what the tokens of a text stand for.
 use Rattle.std.specs.Prelude.{ℕ, ◌+◌, Bool, false, if◌then◌else◌, ◌==◌, List, [], ◌∷◌, drop}
 use Rattle.sql_words.specs.declared.reserved.Word.{Word}
 use Rattle.sql_words.specs.declared.reserved.Word.TheVariants as w

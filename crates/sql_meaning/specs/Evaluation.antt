@@ -1,4 +1,4 @@
--- What an expression gives in a row.
+-- Stated: what an expression gives in a row.
 use Rattle.std.specs.Prelude.{ℕ, Bool, true, false, not, List, slice_index_or, Result, Ok, Err, Option, Some, None, ℤ, pos, ◌+ℤ◌, ◌-ℤ◌, ◌*ℤ◌, if◌then◌else◌}
 use Rattle.std.specs.Option.{option_map_or}
 use Rattle.std.specs.Ordering.{is_eq, is_ne, is_lt, is_le, is_gt, is_ge}

@@ -1,4 +1,4 @@
--- The sorts of expressions. NULL fits each place.
+-- Stated: the sorts of expressions. NULL fits each place.
 use Rattle.std.specs.Prelude.{Bool, true, false, ◌&&◌, ◌||◌, if◌then◌else◌, List, slice_get, ℕ, Option, Some, None, option_map}
 use Rattle.sql_values.specs.declared.values.Sort.{Sort}
 use Rattle.sql_values.specs.declared.values.Sort.TheVariants as sort

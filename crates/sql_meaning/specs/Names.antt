@@ -1,4 +1,4 @@
--- Tables and columns by their names.
+-- Stated: tables and columns by their names.
 use Rattle.std.specs.Prelude.{ℕ, Bool, true, ◌&&◌, ◌==◌, if◌then◌else◌, List, [], ◌∷◌, ◌++◌, map, Option, Some, None, is_none, option_map, option_to_list, bytes_eq, find, position, count_by, flat_map}
 use Rattle.std.specs.Option.{option_map_or}
 use Rattle.sql_values.specs.declared.schemas.Column.{Column}

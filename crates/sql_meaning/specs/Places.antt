@@ -1,4 +1,4 @@
--- A statement with places in place of names.
+-- Stated: A statement with places in place of names.
 use Rattle.std.specs.Prelude.{ℕ, List, [], ◌∷◌, ◌++◌, map, slice_get, Option, Some, None, option_map, option_and_then, unwrap_or, bytes_eq, position}
 use Rattle.std.specs.Option.{option_map_or}
 use Rattle.sql_values.specs.declared.values.Value.TheVariants as value

@@ -1,4 +1,4 @@
--- When a statement is refused before anything is evaluated.
+-- Stated: when a statement is refused before anything is evaluated.
 use Rattle.std.specs.Prelude.{◌≡◌, ℕ, Bool, true, false, not, ◌&&◌, ◌==◌, if◌then◌else◌, List, [], ◌∷◌, length, zip, slice_get, Option, Some, None, is_some, is_none, option_map, find}
 use Rattle.std.specs.List.{list_all}
 use Rattle.std.specs.Option.{option_map_or, option_or}

@@ -1,4 +1,4 @@
--- What a place takes is what it gets.
+-- Stated: what a place takes is what it gets.
 use Rattle.std.specs.Prelude.{◌≡◌, true, List, [], ◌∷◌, Ok}
 use Rattle.sql_values.specs.declared.values.Sort.{Sort}
 use Rattle.sql_values.specs.declared.values.Value.{Value}

@@ -1,4 +1,4 @@
--- Expressions with places in place of names, as plain trees.
+-- Stated: expressions with places in place of names, as plain trees.
 use Rattle.std.specs.Prelude.{ℕ, Bool}
 use Rattle.sql_values.specs.declared.values.Value.{Value}
 use Rattle.sql_statements.specs.declared.expressions.Op.{Op}

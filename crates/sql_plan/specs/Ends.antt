@@ -1,4 +1,4 @@
--- The ends of a range of keys, as conjuncts of a test narrow it one after the other.
+-- Stated: the ends of a range of keys, as conjuncts of a test narrow it one after the other.
 use Rattle.std.specs.Prelude.{ℕ, Bool, true, false, ◌&&◌, List, [], ◌∷◌, Option, Some, None, is_some, option_map}
 use Rattle.sql_values.specs.declared.values.Value.{Value}
 use Rattle.sql_statements.specs.declared.expressions.Op.{Op}

@@ -1,4 +1,4 @@
--- No row that a statement needs lies outside its ranges.
+-- Stated: no row that a statement needs lies outside its ranges.
 use Rattle.std.specs.Prelude.{◌≡◌, ℕ, false, List, ◌++◌, Option, Some, None, option_map, is_none, if◌then◌else◌, Ok}
 use Rattle.rm_base.specs.declared.key_range.KeyRange.{KeyRange}
 use Rattle.sql_values.specs.declared.logic.Truth.TheVariants.{No}

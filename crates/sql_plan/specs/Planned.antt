@@ -1,4 +1,4 @@
--- What a planner was made for.
+-- Stated: what a planner was made for.
 use Rattle.std.specs.Prelude.{◌≡◌, List, Option, Some, None}
 use Rattle.sql_values.specs.declared.schemas.Schema.{Schema}
 use Rattle.sql_statements.specs.declared.statements.Stmt.{Stmt}

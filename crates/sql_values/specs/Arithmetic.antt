@@ -1,4 +1,4 @@
--- Sums, differences and products of values, exact or refused.
+-- Stated: sums, differences and products of values, exact or refused.
 use Rattle.std.specs.Prelude.{◌≡◌, Bool, ◌&&◌, if◌then◌else◌, Result, Ok, Err, ℤ, pos, negsuc, int_le, FitsSigned}
 use Rattle.std.specs.Int.{w64}
 use Rattle.std.specs.Result.{OkIff}

@@ -1,4 +1,4 @@
--- The logic of three truths, by its tables.
+-- Stated: the logic of three truths, by its tables.
 use Rattle.sql_values.specs.declared.logic.Truth.{Truth}
 use Rattle.sql_values.specs.declared.logic.Truth.TheVariants.{Yes, No, Unknown}
 

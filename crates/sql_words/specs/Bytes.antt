@@ -1,4 +1,4 @@
--- Kinds of bytes.
+-- Stated: kinds of bytes.
 use Rattle.std.specs.Prelude.{◌≡◌, ℕ, Bool, false, ◌||◌, ◌&&◌, ◌==◌, nat_le, List, [], ◌∷◌}
 
 -- the space, tab and CR

@@ -1,4 +1,4 @@
--- The token at the front of bytes that do not begin with white space: its class and its length, or how
+-- Stated: the token at the front of bytes that do not begin with white space: its class and its length, or how
 -- far behind the front the bytes have their fault.
 use Rattle.std.specs.Prelude.{ℕ, ◌+◌, ◌-◌, ◌*◌, Bool, ◌==◌, if◌then◌else◌, nat_lt, nat_le, List, [], ◌∷◌, length, take, drop, slice_index, Option, Some, None, Result, Ok, Err}
 use Rattle.std.specs.Option.{option_map}

@@ -1,4 +1,4 @@
--- A token as contracts see it.
+-- Stated: A token as contracts see it.
 use Rattle.std.specs.Prelude.{ℕ, List}
 use Rattle.sql_words.specs.declared.tokens.Class.{Class}
 

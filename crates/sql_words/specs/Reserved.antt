@@ -1,4 +1,4 @@
--- The words that SQL reserves.
+-- Stated: the words that SQL reserves.
 use Rattle.std.specs.Prelude.{ℕ, List, [], ◌∷◌, Option, map, find, codes}
 use Rattle.std.specs.Str.{bytes_eq}
 use Rattle.std.specs.Char.{to_ascii_lowercase}

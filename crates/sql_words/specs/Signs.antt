@@ -1,4 +1,4 @@
--- The signs of SQL.
+-- Stated: the signs of SQL.
 use Rattle.std.specs.Prelude.{◌≡◌, ℕ, Bool, false, ◌||◌, ◌==◌, List, ◌⊎◌, codes}
 use Rattle.sql_words.specs.declared.signs.Sign.{Sign}
 use Rattle.sql_words.specs.declared.signs.Sign.TheVariants.{Open, Close, Comma, Dot, Semicolon, Star, Plus, Minus, Eq, Ne, Lt, Le, Gt, Ge}

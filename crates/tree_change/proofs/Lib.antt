@@ -28,3 +28,4 @@ pub mod FullLaws
 pub mod RootEffects
 pub mod RootTree
 pub mod ReadLaws
+pub mod SplitKinds

@@ -1,4 +1,4 @@
--- The plans that change one item of a leaf.
+-- Stated: the plans that change one item of a leaf.
 use Rattle.std.specs.Prelude.{◌≡◌, ◌+◌, ℕ, List, [], ◌∷◌, ◌++◌}
 use Rattle.page_image.specs.Meta.{page_count}
 use Rattle.page_image.specs.declared.kind.Kind.TheVariants.{Leaf}

@@ -1,4 +1,4 @@
--- What a plan's records do to a tree's pages.
+-- Stated: what a plan's records do to a tree's pages.
 use Rattle.std.specs.Prelude.{◌≡◌, ◌≢◌, ◌≤◌, ◌<◌, ◌+◌, ◌⊎◌, ◌↔◌, ℕ, List, [], ◌∷◌, ◌++◌, length, Contains}
 use Rattle.rm_base.specs.declared.limits.TheConstants.{MAX_PAGES}
 use Rattle.std.specs.List.{AllByRecursion}

@@ -1,4 +1,4 @@
--- What a change finds on a single page of its way.
+-- Stated: what a change finds on a single page of its way.
 use Rattle.std.specs.Prelude.{◌≡◌, ◌≤◌, ◌<◌, ◌⊎◌, ℕ, List, [], length, Some, slice_get}
 use Rattle.std.specs.List.{AllByRecursion}
 use Rattle.page_image.specs.declared.kind.Kind.TheVariants.{Leaf, Inner}

@@ -1,4 +1,4 @@
--- Where a key stands among a page's keys, and the pages of a path.
+-- Stated: where a key stands among a page's keys, and the pages of a path.
 use Rattle.std.specs.Prelude.{◌≡◌, ℕ, ◌-◌, List, Some, length, filter, slice_get, slice_index_or}
 use Rattle.std.specs.Ordering.{is_lt, is_eq, is_le, is_gt}
 use Rattle.page_image.specs.Image.{Image, unmade}

@@ -1,4 +1,4 @@
--- Which pages have room for a change.
+-- Stated: which pages have room for a change.
 use Rattle.std.specs.Prelude.{ℕ, ◌+◌, Bool, List, length, nat_lt, if◌then◌else◌}
 use Rattle.rm_base.specs.declared.limits.TheConstants.{RECORD_OVERHEAD_BYTES}
 use Rattle.page_image.specs.Image.{Image, is_inner, used, free_of}

@@ -1,4 +1,4 @@
--- The plans that split a page.
+-- Stated: the plans that split a page.
 use Rattle.std.specs.Prelude.{◌≡◌, ◌≤◌, ◌<◌, ◌+◌, ◌==◌, ℕ, Bool, true, false, List, [], ◌∷◌, ◌++◌, length, take, drop, slice_index, slice_index_or, Option, MatchOption, if◌then◌else◌}
 use Rattle.rm_base.specs.declared.limits.TheConstants.{MAX_PAGE_ID, MAX_RECORD_BYTES}
 use Rattle.std.specs.List.{AllByRecursion}

@@ -1,4 +1,4 @@
--- The way from a tree's root to the leaf of a key.
+-- Stated: the way from a tree's root to the leaf of a key.
 use Rattle.std.specs.Prelude.{◌≡◌, ℕ, List, map}
 use Rattle.page_image.specs.Image.{Image}
 use Rattle.bplus_tree.specs.Tree.{Tree, Way}

@@ -1,5 +1,5 @@
 //! The record that sets the number of pages in the meta page.
-ghost use Rattle.std.specs.Prelude.{[], ◌∷◌, ◌++◌, OnOk};
+ghost use Rattle.std.specs.Prelude.{◌≡◌, [], ◌∷◌, ◌++◌, OnOk};
 ghost use Rattle.tree_change.specs.Splits as spec;
 
 use crate::spelling::number_bytes;

@@ -40,6 +40,7 @@ fn split_of_root(
     }
 }
 
+#[tactic(auto, using(crate::proofs::SplitKinds::root_is_split))]
 /// The plan that splits the first page with too little room on the way of the item's change. None where
 /// each page has room. SpaceFull where the pages that it makes go past the last one, and where the root
 /// would be split above level 8.

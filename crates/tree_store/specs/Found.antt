@@ -1,4 +1,4 @@
--- What is found in a range of keys.
+-- Stated: what is found in a range of keys.
 use Rattle.std.specs.Prelude.{◌≡◌, ℕ, List, [], ◌∷◌, ◌++◌, Option, filter}
 use Rattle.std.specs.List.{AllByRecursion}
 use Rattle.page_image.specs.Image.{Image}
