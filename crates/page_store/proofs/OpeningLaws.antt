@@ -14,7 +14,7 @@ use Rattle.redo_record.specs.declared.redo.Record.TheVariants.{Make, Patch}
 use Rattle.redo_record.specs.Spelling.{IsAdmitted}
 use Rattle.redo_record.specs.Effect.{after_records, RecordsApply}
 use Rattle.redo_record.proofs.Fold.{after_records-page, after_records-other}
-use Rattle.redo_record.specs.declared.opening.TheConstants.{FIELDS_AT, FORMAT, FIRST_NUMBER, NO_STAMP}
+use Rattle.redo_record.specs.declared.opening.TheConstants.{META_FIELDS_AT, FORMAT_NUMBER, FIRST_TRX_ID, NO_STAMP}
 use Rattle.page_store.specs.Stored.{pages_of}
 use Rattle.redo_record.specs.Opening.{meta_fields, opening_records}
 use Rattle.redo_record.proofs.OpeningLaws.{length-meta_fields}
@@ -34,12 +34,12 @@ opened_body = refl
 
 pub opened_count : number 4 (drop 4 (pages_of opened META_PAGE_ID).body) ≡ FIRST_FREE_PAGE_ID
 opened_count =
-    let others : List ℕ = field 4 FIRST_UNDO_PAGE_ID ++ (field 8 FIRST_NUMBER ++ field 8 NO_STAMP) in
+    let others : List ℕ = field 4 FIRST_UNDO_PAGE_ID ++ (field 8 FIRST_TRX_ID ++ field 8 NO_STAMP) in
     let rest : List ℕ = drop (0 + length meta_fields) (zeros (PAGE_BYTES - PAGE_HEADER_BYTES)) in
-    let parts : meta_fields ++ rest ≡ field 4 FORMAT ++ (field 4 FIRST_FREE_PAGE_ID ++ (others ++ rest)) =
-    append_assoc (field 4 FORMAT) (field 4 FIRST_FREE_PAGE_ID ++ others) rest ∙ ap (λ (b : List ℕ). field 4 FORMAT ++ b) (append_assoc (field 4 FIRST_FREE_PAGE_ID) others rest) in
+    let parts : meta_fields ++ rest ≡ field 4 FORMAT_NUMBER ++ (field 4 FIRST_FREE_PAGE_ID ++ (others ++ rest)) =
+    append_assoc (field 4 FORMAT_NUMBER) (field 4 FIRST_FREE_PAGE_ID ++ others) rest ∙ ap (λ (b : List ℕ). field 4 FORMAT_NUMBER ++ b) (append_assoc (field 4 FIRST_FREE_PAGE_ID) others rest) in
     ap (λ (b : List ℕ). number 4 (drop 4 b)) (opened_body ∙ parts)
-    ∙ ap (number 4) (drop_at (field 4 FORMAT) (field 4 FIRST_FREE_PAGE_ID ++ (others ++ rest)) 4 (length-field 4 FORMAT))
+    ∙ ap (number 4) (drop_at (field 4 FORMAT_NUMBER) (field 4 FIRST_FREE_PAGE_ID ++ (others ++ rest)) 4 (length-field 4 FORMAT_NUMBER))
     ∙ number-field 4 FIRST_FREE_PAGE_ID (others ++ rest) (omega arith)
 
 not_page : (n p : ℕ) → n < 1028 → 1028 ≤ p → nat_eq n p ≡ false

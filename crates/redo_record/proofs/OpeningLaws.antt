@@ -14,7 +14,7 @@ use Rattle.redo_record.specs.declared.redo.Record.TheVariants.{Make, Patch}
 use Rattle.redo_record.specs.Spelling.{IsAdmitted}
 use Rattle.redo_record.specs.Effect.{after_records, RecordsApply}
 use Rattle.redo_record.proofs.Fold.{after_records-page, after_records-other}
-use Rattle.redo_record.specs.declared.opening.TheConstants.{FIELDS_AT, FORMAT, FIRST_NUMBER, NO_STAMP}
+use Rattle.redo_record.specs.declared.opening.TheConstants.{META_FIELDS_AT, FORMAT_NUMBER, FIRST_TRX_ID, NO_STAMP}
 use Rattle.redo_record.specs.Opening.{meta_fields, opening_records}
 
 pub length-meta_fields : length meta_fields ≡ 28
@@ -48,25 +48,25 @@ abbrev meta_made : List Record
 meta_made = Make META_PAGE_ID Meta 0 ∷ []
 
 abbrev meta_filled : List Record
-meta_filled = Make META_PAGE_ID Meta 0 ∷ Patch META_PAGE_ID FIELDS_AT meta_fields ∷ []
+meta_filled = Make META_PAGE_ID Meta 0 ∷ Patch META_PAGE_ID META_FIELDS_AT meta_fields ∷ []
 
 abbrev slots_made : List Record
-slots_made = Make META_PAGE_ID Meta 0 ∷ Patch META_PAGE_ID FIELDS_AT meta_fields ∷ Make SLOTS_PAGE_ID Slots 0 ∷ []
+slots_made = Make META_PAGE_ID Meta 0 ∷ Patch META_PAGE_ID META_FIELDS_AT meta_fields ∷ Make SLOTS_PAGE_ID Slots 0 ∷ []
 
 abbrev root_made : List Record
-root_made = Make META_PAGE_ID Meta 0 ∷ Patch META_PAGE_ID FIELDS_AT meta_fields ∷ Make SLOTS_PAGE_ID Slots 0 ∷ Make CATALOG_ROOT_PAGE_ID Leaf 0 ∷ []
+root_made = Make META_PAGE_ID Meta 0 ∷ Patch META_PAGE_ID META_FIELDS_AT meta_fields ∷ Make SLOTS_PAGE_ID Slots 0 ∷ Make CATALOG_ROOT_PAGE_ID Leaf 0 ∷ []
 
 keeps_number : (lsn p : ℕ) (records : List Record) → (after_records lsn records (unmade p)).page ≡ p
 keeps_number lsn p records = after_records-page lsn records (unmade p)
 
-meta_fits : (lsn : ℕ) → CanPatch (after_records lsn meta_made (unmade META_PAGE_ID)) FIELDS_AT meta_fields
+meta_fits : (lsn : ℕ) → CanPatch (after_records lsn meta_made (unmade META_PAGE_ID)) META_FIELDS_AT meta_fields
 meta_fits lsn = let size = length-meta_fields in record { fields = refl; past_header = omega arith; within = omega arith }
 
 pub opening_applies : (lsn p : ℕ) → RecordsApply lsn opening_records (unmade p)
 opening_applies lsn p =
     let meta = λ (e : META_PAGE_ID ≡ p). subst (λ (q : ℕ). CanMake (unmade q) Meta 0) e (makes META_PAGE_ID Meta (λ e. absurd (omega arith)) refl) in
     let fields = λ (e : META_PAGE_ID ≡ (after_records lsn meta_made (unmade p)).page).
-    subst (λ (q : ℕ). CanPatch (after_records lsn meta_made (unmade q)) FIELDS_AT meta_fields) (e ∙ keeps_number lsn p meta_made) (meta_fits lsn) in
+    subst (λ (q : ℕ). CanPatch (after_records lsn meta_made (unmade q)) META_FIELDS_AT meta_fields) (e ∙ keeps_number lsn p meta_made) (meta_fits lsn) in
     let slots = λ (e : SLOTS_PAGE_ID ≡ (after_records lsn meta_filled (unmade p)).page).
     subst (λ (q : ℕ). CanMake (after_records lsn meta_filled (unmade q)) Slots 0) (e ∙ keeps_number lsn p meta_filled) (makes SLOTS_PAGE_ID Slots (λ e. absurd (omega arith)) refl) in
     let root = λ (e : CATALOG_ROOT_PAGE_ID ≡ (after_records lsn slots_made (unmade p)).page).

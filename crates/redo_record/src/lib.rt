@@ -16,7 +16,7 @@ pub use applying::{BadApply, apply};
 pub use decoding::{BadRecord, decode};
 pub use encoding::encode;
 pub use laws::{fold_laws, grammar_laws};
-pub use opening::opening_records;
+pub use opening::{FIRST_TRX_ID, FORMAT_NUMBER, META_FIELDS_AT, NO_STAMP, opening_records};
 pub use plans::{Path, Plan, PlanKind, TreeNo};
 pub use redo::{Group, Groups, Record, Records};
 

@@ -14,26 +14,26 @@ use rm_base::{
 use std::alloc::Global;
 
 /// Where the meta page's fields begin, in bytes.
-const FIELDS_AT: u16 = 32;
+pub const META_FIELDS_AT: u16 = 32;
 
 /// The number of the format of pages and redo.
-const FORMAT: u32 = 1;
+pub const FORMAT_NUMBER: u32 = 1;
 
 /// The number that the first transaction is given.
-const FIRST_NUMBER: u64 = 1;
+pub const FIRST_TRX_ID: u64 = 1;
 
 /// No transaction is committed.
-const NO_STAMP: u64 = 0;
+pub const NO_STAMP: u64 = 0;
 
 /// The meta page's fields.
 fn meta_fields(alloc: Global) -> Result<Bytes, WantOfMemory>
     ensures { IfOk result (λ bytes. bytes ≡ meta_fields) }
 {
     let mut fields = Bytes::new(alloc);
-    push_u32(&mut fields, FORMAT)?;
+    push_u32(&mut fields, FORMAT_NUMBER)?;
     push_u32(&mut fields, FIRST_FREE_PAGE_ID)?;
     push_u32(&mut fields, FIRST_UNDO_PAGE_ID)?;
-    push_u64(&mut fields, FIRST_NUMBER)?;
+    push_u64(&mut fields, FIRST_TRX_ID)?;
     push_u64(&mut fields, NO_STAMP)?;
     Ok(fields)
 }
@@ -58,7 +58,7 @@ pub fn opening_records(alloc: Global) -> Result<Records, WantOfMemory>
     records.push(make(META_PAGE_ID, Kind::Meta))?;
     records.push(Record::Patch {
         page: PageId::new(META_PAGE_ID).unwrap(),
-        at: FIELDS_AT,
+        at: META_FIELDS_AT,
         bytes: meta_fields(alloc)?,
     })?;
     records.push(make(SLOTS_PAGE_ID, Kind::Slots))?;
