@@ -1,18 +1,10 @@
-//! The numbers of the meta page.
+//! The numbers of the meta page; how many pages are taken says `page_image`.
 ghost use Rattle.std.specs.Prelude.{◌≡◌};
 ghost use Rattle.page_image.specs.Meta.{IsMeta, counters_of};
 
 use crate::body::{u32_in, u64_in};
 use page_image::Page;
 use rm_base::{Stamp, TrxId};
-
-/// How many pages are taken.
-pub fn page_count(meta: &Page) -> u32
-    requires { IsMeta meta.now }
-    ensures { result ≡ (counters_of meta.now).pages }
-{
-    u32_in(meta, 4)
-}
 
 /// The undo page in use.
 pub fn undo_page(meta: &Page) -> u32

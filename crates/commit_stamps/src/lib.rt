@@ -9,7 +9,7 @@ mod slots;
 mod spelling;
 mod stamps;
 
-pub use counters::{last_stamp, next_number, page_count, undo_page};
+pub use counters::{last_stamp, next_number, undo_page};
 pub use plans::{TrxFull, begin_plan, commit_plan, free_plan};
 pub use slots::{Slot, push_pointer, slot_of};
 pub use stamps::{publish, stamp_of, stamp_page, visible};
