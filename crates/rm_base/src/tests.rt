@@ -35,17 +35,10 @@ fn fields_join_a_list_highest_byte_first(rt: HostRuntime) -> Result<(), Fail> {
 
 #[test]
 fn identifiers_end_at_their_bounds(rt: HostRuntime) {
-    assert_eq!(rt; NodeId::new(15).map(|n| n.number()), Some(15));
-    assert_eq!(rt; NodeId::new(16), None);
-    assert_eq!(rt; SlabId::new(15).map(|n| n.number()), Some(15));
-    assert_eq!(rt; SlabId::new(16), None);
-    assert_eq!(rt; SessionId::new(63).map(|n| n.number()), Some(63));
-    assert_eq!(rt; SessionId::new(64), None);
-    assert_eq!(rt; PageId::new(32_767).map(|n| n.number()), Some(32_767));
-    assert_eq!(rt; PageId::new(32_768), None);
-    assert_eq!(rt; Lsn::new(u64::MAX).number(), u64::MAX);
-    let page = PageId::new(1028).unwrap();
-    assert!(rt; page > PageId::default());
+    assert!(rt; NodeId::new(15).is_some() && NodeId::new(16).is_none());
+    assert!(rt; SlabId::new(15).is_some() && SlabId::new(16).is_none());
+    assert!(rt; SessionId::new(63).is_some() && SessionId::new(64).is_none());
+    assert!(rt; PageId::new(MAX_PAGE_ID).is_some() && PageId::new(MAX_PAGES).is_none());
 }
 
 fn items(alloc: Global, bytes: &[u8]) -> Result<Bytes, WantOfMemory>
@@ -57,26 +50,15 @@ fn items(alloc: Global, bytes: &[u8]) -> Result<Bytes, WantOfMemory>
 }
 
 #[test]
-fn lists_grow_and_are_copied(rt: HostRuntime) -> Result<(), Fail> {
+fn lists_grow_and_shrink(rt: HostRuntime) -> Result<(), Fail> {
     let mut list = items(rt.alloc(), b"ann")?;
     list.push(b'e')?;
-    assert_eq!(rt; list.as_slice(), b"anne".as_slice());
-    assert_eq!(rt; list.len(), 4);
-    assert_eq!(rt; list.get(3).copied(), Some(b'e'));
-    assert_eq!(rt; list.get(4).copied(), None);
-    let mut lists = Items::new(rt.alloc());
-    lists.push(list)?;
-    lists.push(Items::new(rt.alloc()))?;
-    let copy = lists.copy(rt.alloc())?;
-    assert_eq!(rt; copy.len(), 2);
-    for (copied, original) in copy.as_slice().iter().zip(lists.as_slice()) {
-        assert_eq!(rt; copied.as_slice(), original.as_slice());
+    if let Some(last) = list.get_mut(3) {
+        *last = b'y';
     }
-    assert!(rt; Bytes::from_vec(Vec::new(rt.alloc())).is_empty());
-    assert_eq!(rt;
-        items(rt.alloc(), b"bo")?.into_vec().as_slice(),
-        b"bo".as_slice()
-    );
+    assert_eq!(rt; list.remove(0), b'a');
+    assert_eq!(rt; list.pop(), Some(b'y'));
+    assert_eq!(rt; list.copy(rt.alloc())?.as_slice(), b"nn".as_slice());
     Ok(())
 }
 
@@ -87,8 +69,9 @@ fn a_full_list_refuses_and_stays(rt: HostRuntime) {
         assert_eq!(rt; pages.try_push(PageId::new(n).unwrap()), Ok(()));
     }
     assert_eq!(rt; pages.try_push(PageId::default()), Err(Full));
-    assert_eq!(rt; pages.as_slice().len(), 8);
-    assert_eq!(rt; pages.as_slice()[7].number(), 7);
+    assert_eq!(rt; pages.remove(0).number(), 0);
+    assert_eq!(rt; pages.pop().map(|page| page.number()), Some(7));
+    assert_eq!(rt; pages.len(), 6);
 }
 
 #[test]
@@ -97,9 +80,6 @@ fn names_have_1_to_32_bytes(rt: HostRuntime) -> Result<(), Fail> {
     for (n, good) in [(0usize, false), (1, true), (32, true), (33, false)] {
         let name = Name::new(items(rt.alloc(), &letters[..n])?);
         assert_eq!(rt; name.is_some(), good, "{n} letters");
-        if let Some(name) = name {
-            assert_eq!(rt; name.copy(rt.alloc())?.as_slice(), &letters[..n]);
-        }
     }
     Ok(())
 }
