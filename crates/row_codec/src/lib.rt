@@ -7,8 +7,6 @@ mod keys;
 mod lengths;
 mod reading;
 mod spelling;
-#[cfg(test)]
-mod tests;
 
 pub use fitting::fits_schema;
 pub use keys::{key_laws, key_of};

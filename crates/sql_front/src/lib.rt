@@ -16,8 +16,6 @@ mod rendering;
 mod showing;
 mod spelling;
 mod stopping;
-#[cfg(test)]
-mod tests;
 
 pub use laws::{created_tables, one_meaning, reading_laws};
 pub use parsing::{Syntax, parse};

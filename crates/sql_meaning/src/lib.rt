@@ -12,8 +12,6 @@ mod refusals;
 mod resolved;
 mod resolving;
 mod sorting;
-#[cfg(test)]
-mod tests;
 
 pub use actions::{Action, OrderPlace, OrderPlaces, Output, SetPlace, SetPlaces, Total, Totals};
 pub use evaluating::test_truth;

@@ -5,8 +5,6 @@ mod arithmetic;
 mod comparing;
 mod logic;
 mod schemas;
-#[cfg(test)]
-mod tests;
 mod values;
 
 pub use arithmetic::{Overflow, add, mul, sub};

@@ -9,8 +9,6 @@ mod quotes;
 mod reserved;
 mod scanning;
 mod signs;
-#[cfg(test)]
-mod tests;
 mod tokens;
 
 pub use contents::content_of;

@@ -1,5 +1,5 @@
 -- Stated: the language of a table machine.
-use Rattle.std.specs.Prelude.{ℕ, List, Result}
+use Rattle.std.specs.Prelude.{◌≡◌, ℕ, List, Result}
 use Rattle.sql_statements.specs.declared.statements.Stmt.{Stmt}
 use Rattle.sql_database.specs.Answers.{Answering}
 use Rattle.sql_database.specs.Database.{Database}

@@ -1,5 +1,6 @@
-use crate::{one_meaning, parse, print};
+//! Texts as statements, and where a text is wrong.
 use rm_base::Text;
+use sql_front::{one_meaning, parse, print};
 use std::alloc::Global;
 use std::test::Fail;
 

@@ -1,5 +1,6 @@
-use crate::*;
+//! Rows and keys as bytes.
 use rm_base::{Bytes, Items, Name, WantOfMemory};
+use row_codec::*;
 use sql_values::{Column, Row, Schema, Sort, Value};
 use std::alloc::Global;
 use std::test::Fail;

@@ -1,7 +1,8 @@
-use crate::{
+//! Truth tables, sums at the ends of an i64, and the order of values.
+use rm_base::Text;
+use sql_values::{
     Overflow, Sort, Truth, Value, add, and, compare, fits, mul, not, or, order, order_laws, sub,
 };
-use rm_base::Text;
 use std::alloc::Global;
 use std::cmp::Ordering;
 use std::test::Fail;

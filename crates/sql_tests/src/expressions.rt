@@ -1,4 +1,5 @@
-use crate::Resolved;
+//! Short cuts of AND and OR, and overflow beside NULL.
+use sql_meaning::Resolved;
 use sql_statements::Op;
 use sql_values::{Overflow, Truth, Value};
 use sqlite_items::Boxed;

@@ -1,4 +1,5 @@
-use crate::{Class, Sign, Token, WORDS, Word, content_of, number_in, one_reading, scan, words};
+//! Texts as tokens.
+use sql_words::{Class, Sign, Token, WORDS, Word, content_of, number_in, one_reading, scan, words};
 use std::alloc::Global;
 use std::test::Fail;
 
@@ -101,7 +102,7 @@ fn reserved_words_in_both_cases(rt: HostRuntime) -> Result<(), Fail> {
     Ok(())
 }
 
-#[tactic(auto, unfolding(crate::specs::Bytes::is_digit))]
+#[tactic(auto, unfolding(sql_words::specs::Bytes::is_digit))]
 #[test]
 fn numbers_and_contents(rt: HostRuntime) -> Result<(), Fail> {
     assert_eq!(rt; number_in(b"0070"), Some(70));
