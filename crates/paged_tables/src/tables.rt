@@ -1,7 +1,7 @@
 ghost use Rattle.std.specs.Prelude.{◌≡◌, ◌↔◌, ℕ, List, codes, filter, Some, IsOk, IfOk, OnOk, OnErr};
 ghost use Rattle.redo_record.specs.Spelling.{Spells};
 ghost use Rattle.redo_record.specs.Effect.{CountsFrom};
-ghost use Rattle.page_store.specs.declared.TheConstants.{CATALOG_ROOT_PAGE_ID};
+ghost use Rattle.rm_base.specs.declared.limits.TheConstants.{CATALOG_ROOT_PAGE_ID};
 ghost use Rattle.page_store.specs.Stored.{groups_of, pages_of, all_kept, given_back};
 ghost use Rattle.bplus_tree.specs.Forest.{IsFull};
 ghost use Rattle.sql_database.specs.Database.{Database, empty};

@@ -7,4 +7,3 @@ mod SessionLaws
 mod ServingLaws
 mod LineEnds
 mod LineLaws
-pub mod Readings

@@ -6,3 +6,4 @@ pub mod Serving
 pub mod Statuses
 pub mod Texts
 pub mod Writing
+pub mod Readings

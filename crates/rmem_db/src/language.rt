@@ -9,7 +9,7 @@ pub(crate) struct Sql;
 
 impl Language for Sql {
     ghost use Rattle.sql_exec.proofs.AnswerLaws.{rules};
-    ghost use Rattle.rmem_db.proofs.Readings.{one_reading};
+    ghost use Rattle.rmem_db.specs.Readings.{one_reading};
     ghost use Rattle.rmem_db.specs.Session.{sql};
 
     ghost language = { sql };
