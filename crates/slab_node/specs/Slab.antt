@@ -1,6 +1,6 @@
 -- Stated: a slab as its slots, which of them are taken, and its incarnation while it is up.
 use Rattle.std.specs.Prelude.{◌≡◌, ◌<◌, ◌+◌, ℕ, Bool, true, false, List, length, Some, slice_get, slice_set, replicate, nat_le, nat_lt, ◌&&◌}
-use Rattle.page_image.specs.Image.{Image}
+use Rattle.page_image.specs.Image.{Image, unmade}
 use Rattle.node_model.specs.Slots.{Slots, address_number}
 
 -- what each slot holds, and whether it is taken
@@ -28,17 +28,26 @@ gave_back S s = record { id = S.id; incarnation = S.incarnation; up = S.up; page
 abbrev pub crashed : SlabState → SlabState
 crashed S = record { id = S.id; incarnation = S.incarnation; up = false; pages = S.pages; taken = S.taken }
 
--- up again in its next incarnation, with every slot free
+-- up again in its next incarnation, with every slot free and blank
 abbrev pub restarted : SlabState → SlabState
-restarted S = record { id = S.id; incarnation = S.incarnation + 1; up = true; pages = S.pages; taken = replicate (length S.taken) false }
+restarted S = record {
+  id = S.id;
+  incarnation = S.incarnation + 1;
+  up = true;
+  pages = replicate (length S.pages) (unmade 0);
+  taken = replicate (length S.taken) false;
+}
 
 -- the slab is a part of one memory of slots by address. While it is up its slots hold what that memory has at their
--- addresses, which are not lost; the addresses of its earlier incarnations are lost, and while it is down its last ones too
+-- addresses, which are not lost; the addresses of its earlier incarnations are lost, and while it is down its last ones too.
+-- At the addresses of its later incarnations nothing was written yet, and none of them is lost
 pub record IsPart (S : SlabState) (M : Slots) : Type 0 where
   pub holds : S.up ≡ true → (s : ℕ) (image : Image) → slice_get S.pages s ≡ Some image → M.holds (address_number S.id S.incarnation s) ≡ image
   pub live : S.up ≡ true → (s : ℕ) → s < length S.pages → M.dead (address_number S.id S.incarnation s) ≡ false
-  pub past : (i s : ℕ) → i < S.incarnation → s < length S.pages → M.dead (address_number S.id i s) ≡ true
+  pub past : (i s : ℕ) → 0 < i → i < S.incarnation → s < length S.pages → M.dead (address_number S.id i s) ≡ true
   pub down : S.up ≡ false → (s : ℕ) → s < length S.pages → M.dead (address_number S.id S.incarnation s) ≡ true
+  pub unwritten : (i s : ℕ) → S.incarnation < i → s < length S.pages → M.holds (address_number S.id i s) ≡ unmade 0
+  pub unlost : (i s : ℕ) → S.incarnation < i → s < length S.pages → M.dead (address_number S.id i s) ≡ false
 
 -- the addresses that the slab gives out in its incarnation
 abbrev pub spans : SlabState → ℕ → Bool

@@ -3,9 +3,11 @@
 
 mod laws;
 mod slab;
+mod slabs;
 mod slots;
 #[cfg(test)]
 mod tests;
 
 pub use laws::slab_laws;
 pub use slab::{Slab, SlabNo};
+pub use slabs::Slabs;

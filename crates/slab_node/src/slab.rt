@@ -1,10 +1,10 @@
 ghost use Rattle.std.specs.Prelude.{◌≡◌, ◌≢◌, ◌≤◌, ◌<◌, ◌+◌, ◌-◌, ◌^◌, ◌↔◌, ℕ, true, false, Some, Err, length, replicate, slice_get, IfOk, IfSome, IfNone, OnOk, OnErr, MatchOption};
 ghost use Rattle.std.specs.Option.{option_map_or};
-ghost use Rattle.page_image.specs.Image.{Image};
+ghost use Rattle.page_image.specs.Image.{Image, unmade};
 
 use crate::slots::Slots;
 use page_image::Page;
-use rm_base::{Addr, Incarnation, PageId, SlabId, WantOfMemory};
+use rm_base::{Addr, Duplicate, Incarnation, PageId, SlabId, WantOfMemory};
 use std::alloc::Global;
 use std::marker::Model;
 
@@ -26,40 +26,56 @@ pub struct Slab {
     up: bool,
     pages: Vec<Page>,
     slots: Slots,
+    /// What a slot holds before it is written.
+    blank: Page,
 }
 
 impl Model for Slab {
     ghost use Rattle.std.specs.Prelude.{◌≡◌, ◌<◌, ◌^◌, length};
+    ghost use Rattle.page_image.specs.Image.{unmade};
     ghost use Rattle.slab_node.specs.Slab.{SlabState};
 
     ghost Value = { SlabState };
 
     ghost view = { λ slab. record { id = slab.id; incarnation = slab.incarnation; up = slab.up; pages = slab.pages.items; taken = slab.slots } };
 
-    ghost invariant = { λ slab. (length slab.slots ≡ length slab.pages.items) × (length slab.pages.items < 2 ^ 16) };
+    ghost invariant = { λ slab. (length slab.slots ≡ length slab.pages.items) × (length slab.pages.items < 2 ^ 16) × (slab.blank ≡ unmade 0) };
 }
 
-fn blank_pages(alloc: Global, slots: u16) -> Result<Vec<Page>, WantOfMemory>
-    ensures { IfOk result (λ pages. length pages.items ≡ slots) }
+fn copies(alloc: Global, page: &Page, count: u16) -> Result<Vec<Page>, WantOfMemory>
+    ensures { IfOk result (λ pages. pages.items ≡ replicate count page.now) }
 {
-    let mut pages = Vec::with_capacity(alloc, usize::from(slots))?;
-    for _ in 0..slots {
-        pages.push(Page::blank(alloc, PageId::default())?)?;
+    let mut pages = Vec::with_capacity(alloc, usize::from(count))?;
+    for _ in 0..count {
+        pages.push(page.copy(alloc)?)?;
     }
     Ok(pages)
+}
+
+#[tactic(auto, using(crate::proofs::Copies::all_same))]
+fn make_all(pages: &mut [Page], page: &Page)
+    ensures { pages.new ≡ replicate (length pages.old) page.now }
+{
+    for slot in pages.iter_mut() {
+        slot.copy_from(page);
+    }
 }
 
 impl Slab {
     ghost use Rattle.slab_node.specs.Slab.{SlabState, IsSlab, written, took, gave_back, crashed, restarted};
     ghost use Rattle.slab_node.specs.Free.{AllTaken, IsFirstFree};
+    ghost use Rattle.slab_node.specs.Slabs.{has_room, slots_up};
 
     /// A slab that is up in its first incarnation, with every slot free.
     pub fn new(alloc: Global, id: SlabId, slots: u16) -> Result<Slab, WantOfMemory>
         ensures first { IfOk result (λ slab. (slab.id ≡ id) × (slab.incarnation ≡ 1) × (slab.up ≡ true)) }
         ensures slots { IfOk result (λ slab. slab.taken ≡ replicate slots false) }
+        ensures size { IfOk result (λ slab. length slab.pages ≡ slots) }
+        ensures blank { IfOk result (λ slab. slab.pages ≡ replicate slots (unmade 0)) }
         ensures rules { IfOk result IsSlab }
     {
-        let pages = blank_pages(alloc, slots)?;
+        let blank = Page::blank(alloc, PageId::new(0).unwrap())?;
+        let pages = copies(alloc, &blank, slots)?;
         let slots = Slots::new(alloc, slots)?;
         Ok(Slab {
             id,
@@ -67,6 +83,7 @@ impl Slab {
             up: true,
             pages,
             slots,
+            blank,
         })
     }
 
@@ -94,6 +111,21 @@ impl Slab {
         ensures rules { IsSlab self.now }
     {
         self.pages.len()
+    }
+
+    /// Whether the slab is up and has a free slot.
+    pub fn has_room(&self) -> bool
+        ensures { result ≡ has_room self.now }
+    {
+        self.up && self.slots.has_free()
+    }
+
+    /// The number of slots while the slab is up, else 0.
+    pub fn live_slots(&self) -> u32
+        ensures count { result ≡ slots_up self.now }
+        ensures bound { result < 65536 }
+    {
+        if self.up { self.pages.len() as u32 } else { 0 }
     }
 
     /// Whether the slab keeps what stands at addresses of that incarnation.
@@ -131,11 +163,42 @@ impl Slab {
         ensures down { (result ≡ Err SlabNo.Down) ↔ (self.old.up ≡ false) }
         ensures old { (result ≡ Err SlabNo.OldSlab) ↔ ((self.old.up ≡ true) × (address.incarnation ≢ self.old.incarnation)) }
         ensures written { OnOk result (self.new ≡ written self.old address.slot page.now) }
+        ensures size { length self.new.pages ≡ length self.old.pages }
         ensures err { OnErr result (self.new ≡ self.old) }
     {
         self.keeps(address.incarnation)?;
         self.pages[usize::from(address.slot)].copy_from(page);
         Ok(())
+    }
+
+    /// The address of a slot of the slab.
+    fn address(&self, slot: usize) -> Addr
+        requires { slot < length self.now.pages }
+        ensures slab { result.slab ≡ self.now.id }
+        ensures incarnation { result.incarnation ≡ self.now.incarnation }
+        ensures slot { result.slot ≡ slot }
+    {
+        Addr {
+            slab: self.id,
+            incarnation: self.incarnation,
+            slot: slot as u16,
+        }
+    }
+
+    /// The address of the least free slot. None exactly where the slab is down or no slot is free.
+    pub fn first_free(&self) -> Option<Addr>
+        ensures down { self.now.up ≡ false → IfSome result (λ _. ⊥) }
+        ensures least { self.now.up ≡ true → MatchOption result (AllTaken self.now.taken)
+            (λ address. IsFirstFree self.now.taken address.slot) }
+        ensures here { IfSome result (λ address. (address.slab ≡ self.now.id)
+            × (address.incarnation ≡ self.now.incarnation)
+            × (address.slot < length self.now.pages)) }
+    {
+        if !self.up {
+            return None;
+        }
+        let slot = self.slots.first_free()?;
+        Some(self.address(slot))
     }
 
     /// Takes the least free slot. None exactly where the slab is down or no slot is free; then nothing
@@ -177,13 +240,16 @@ impl Slab {
         self.up = false;
     }
 
-    /// The slab comes up in its next incarnation, with every slot free.
+    #[tactic(auto, using(crate::proofs::Copies::as_many))]
+    /// The slab comes up in its next incarnation, with every slot free and blank.
     pub fn restart(&mut self)
         requires { self.old.incarnation < 2 ^ 64 - 1 }
-        ensures { self.new ≡ restarted self.old }
+        ensures restarted { self.new ≡ restarted self.old }
+        ensures size { length self.new.pages ≡ length self.old.pages }
     {
         self.incarnation = Incarnation::new(self.incarnation.number() + 1);
         self.up = true;
+        make_all(self.pages.as_mut_slice(), &self.blank);
         self.slots.give_back_all();
     }
 }

@@ -1,6 +1,6 @@
-ghost use Rattle.std.specs.Prelude.{◌≡◌, ◌≤◌, ◌<◌, ℕ, true, false, length, replicate, slice_set, IfOk, IfSome, IsNone, MatchOption};
+ghost use Rattle.std.specs.Prelude.{◌≡◌, ◌≤◌, ◌<◌, ℕ, true, false, length, replicate, slice_set, nat_lt, IfOk, IfSome, IsNone, MatchOption};
 ghost use Rattle.std.specs.Option.{option_map_or};
-ghost use Rattle.slab_node.specs.Free.{is_free, IsFirstFree, AllTaken};
+ghost use Rattle.slab_node.specs.Free.{is_free, IsFirstFree, AllTaken, count_free};
 
 use rm_base::WantOfMemory;
 use std::alloc::Global;
@@ -60,6 +60,24 @@ impl Slots {
             first: 0,
             free,
         })
+    }
+
+    /// Whether a slot is free.
+    pub fn has_free(&self) -> bool
+        ensures { result ≡ nat_lt 0 (count_free self.now) }
+    {
+        self.free > 0
+    }
+
+    /// The least free slot. None exactly where none is free.
+    pub fn first_free(&self) -> Option<usize>
+        ensures least { MatchOption result (AllTaken self.now) (IsFirstFree self.now) }
+        ensures within { IfSome result (λ s. s < length self.now) }
+    {
+        if self.free == 0 {
+            return None;
+        }
+        first_free(self.taken.as_slice(), self.first)
     }
 
     /// Takes the least free slot. None exactly where none is free.
