@@ -4,3 +4,5 @@ pub mod Entries
 pub mod Marks
 pub mod Tables
 pub mod Order
+pub mod Losing
+pub mod Replacing

@@ -1,5 +1,5 @@
 -- Stated: the home as the entries of the pages, and the watermark.
-use Rattle.std.specs.Prelude.{◌≡◌, ◌<◌, ◌≤◌, ℕ, Bool, true, false, List, nat_eq, Option, length}
+use Rattle.std.specs.Prelude.{◌≡◌, ◌<◌, ◌≤◌, ℕ, Bool, true, false, List, nat_eq, Option, None, length}
 use Rattle.std.specs.Map.{lookup}
 use Rattle.home_model.specs.Numbered.{put}
 use Rattle.home_model.specs.Entry.{Entry as HomeEntry}
@@ -37,3 +37,4 @@ pub record AreKept (es : List (ℕ × Entry)) (idle due : List Bool) : Type 0 wh
   pub idle_pages : (s p : ℕ) → s < 16 → p < 32768 → has_page idle s p ≡ is_idle_on s (kept_in es p)
   pub due_pages : (n p : ℕ) → n < 16 → p < 32768 → has_page due n p ≡ (entry_of (kept_in es p)).due n
   pub room : (524288 ≤ length idle) × (524288 ≤ length due)
+  pub few : (p : ℕ) → 32768 ≤ p → kept_in es p ≡ None

@@ -5,3 +5,5 @@ pub mod Pairs
 pub mod Home
 pub mod Trying
 pub mod Order
+pub mod Losing
+pub mod Replacing

@@ -1,14 +1,15 @@
-ghost use Rattle.std.specs.Prelude.{◌≡◌, ◌↔◌, ℕ, true, false, Some, None, not, nat_eq, max, ◌&&◌};
+ghost use Rattle.std.specs.Prelude.{◌≡◌, ◌↔◌, ℕ, true, false, Some, None, is_some, not, nat_eq, max, ◌&&◌, if◌then◌else◌};
 ghost use Rattle.home_model.specs.Numbered.{put, nobody};
 ghost use Rattle.home_model.specs.Latch.{may_share, MayExclude};
-ghost use Rattle.home_model.specs.Entry.{no_entry, registered, takes_slot, unregistered, invalidated, struck, cleaned, shared_by, excluded_by, released_by};
+ghost use Rattle.home_model.specs.Entry.{no_entry, registered, takes_slot, unregistered, invalidated, struck, cleaned, shared_by, excluded_by, released_by, kicked, swept, stays};
 ghost use Rattle.page_latches.specs.Set.{has, with_node, without_node};
 ghost use Rattle.page_latches.specs.Holding.{IsGranted, OnGranted, OnBusy, latch_of};
-ghost use Rattle.home_tables.specs.Table.{entry_of, address_number, is_idle, referred};
+ghost use Rattle.home_tables.specs.Table.{entry_of, address_number, is_idle, is_on, referred};
+ghost use Rattle.home_tables.specs.Losing.{lost_on};
 ghost use Rattle.home_tables.specs.Access.{accessed, MayTake, taken_by};
 
 use page_latches::{Holders, Latch, Mode, NodeSet, PageLatch};
-use rm_base::{Addr, Lsn, NodeId, PageId};
+use rm_base::{Addr, Lsn, NodeId, PageId, SlabId};
 
 /// What the home keeps of a page in the pool.
 #[derive(Debug, Drop)]
@@ -213,5 +214,64 @@ impl Entry {
             Mode::S => self.try_s(node),
             Mode::X => self.try_x(node),
         }
+    }
+}
+
+impl Entry {
+    /// The node has neither a reference nor a due pair nor the latch.
+    pub fn kick(&mut self, node: NodeId)
+        ensures model { entry_of (Some self.new) ≡ kicked (entry_of (Some self.old)) node }
+        ensures slot { self.new.addr ≡ self.old.addr }
+    {
+        self.refs.remove(node);
+        self.due.remove(node);
+        self.latch.release(node);
+    }
+
+    /// What a loader has to reach once the pool's copy is lost.
+    fn latest(&self) -> Lsn
+        ensures { result ≡ max self.now.floor self.now.lsn }
+    {
+        later(self.floor, self.lsn)
+    }
+
+    /// The slab is lost, and the page's slot with it where it was there.
+    pub fn lose(&mut self, slab: SlabId)
+        ensures model { entry_of (Some self.new) ≡ lost_on slab (Some self.old) }
+        ensures slot { self.new.addr ≡ (if is_on slab self.old.addr then None else self.old.addr) }
+        ensures nodes { has self.new.due ≡ has self.old.due }
+        ensures idle { is_idle self.new ≡ is_idle self.old }
+    {
+        if self.addr.is_some_and(|addr| addr.slab == slab) {
+            self.addr = None;
+            self.bit = true;
+            self.floor = self.latest();
+        }
+    }
+
+    /// Whether the page may be given away for the slot that it has.
+    pub fn is_offered(&self) -> bool
+        ensures { result ≡ (is_some self.now.addr && is_idle self.now) }
+    {
+        self.addr.is_some() && self.is_idle()
+    }
+
+    /// Whether a sweep at the tail leaves the entry.
+    pub fn stays(&self, tail: Lsn) -> bool
+        ensures { result ≡ stays (entry_of (Some self.now)) tail }
+    {
+        !self.bit && self.lsn <= tail
+    }
+
+    /// A sweep at the tail leaves the entry, of which no node knows any more.
+    pub fn settle(&mut self, tail: Lsn)
+        requires { stays (entry_of (Some self.old)) tail ≡ true }
+        ensures model { entry_of (Some self.new) ≡ swept (entry_of (Some self.old)) tail }
+        ensures slot { self.new.addr ≡ self.old.addr }
+    {
+        self.refs = NodeSet::new();
+        self.due = NodeSet::new();
+        self.latch = PageLatch::new();
+        self.floor = tail;
     }
 }

@@ -1,11 +1,12 @@
-ghost use Rattle.std.specs.Prelude.{◌≡◌, ◌≤◌, ◌<◌, ◌+◌, ◌-◌, ◌*◌, ◌↔◌, ◌&&◌, ℕ, true, false, [], length, nat_eq, if◌then◌else◌, slice_set, Some, is_some, IfOk, IfSome, IsNone, OnOk, OnErr};
+ghost use Rattle.std.specs.Prelude.{◌≡◌, ◌≢◌, ◌≤◌, ◌<◌, ◌+◌, ◌-◌, ◌*◌, ◌↔◌, ◌&&◌, ℕ, true, false, [], length, nat_eq, if◌then◌else◌, slice_set, Some, None, is_some, IfOk, IfSome, IsNone, OnOk, OnErr};
 ghost use Rattle.std.specs.Option.{option_copied};
 ghost use Rattle.home_model.specs.Numbered.{put};
-ghost use Rattle.home_model.specs.Entry.{no_entry, takes_slot, registered, invalidated, struck, raised};
+ghost use Rattle.home_model.specs.Entry.{no_entry, takes_slot, registered, invalidated, struck, raised, stays, swept};
 ghost use Rattle.page_latches.specs.Set.{has};
 ghost use Rattle.home_tables.specs.Numbers.{has_page};
 ghost use Rattle.home_tables.specs.Table.{address_number, is_on};
 ghost use Rattle.home_tables.specs.Access.{accessed};
+ghost use Rattle.home_tables.specs.Losing.{kept_from, lost_on, swept_to, freed_by};
 ghost use Rattle.home_tables.specs.Pairs.{pair_number, earlier, IsFirst};
 
 use crate::entry::{Access, Entry, later};
@@ -122,6 +123,8 @@ impl Home {
     ghost use Rattle.home_tables.specs.Home.{HomeState, kept, entry_at, ChangesAt};
     ghost use Rattle.home_tables.specs.Trying.{Tries};
     ghost use Rattle.home_tables.specs.Order.{due_at, due_among, IsFirstIdle};
+    ghost use Rattle.home_tables.specs.Losing.{Becomes, AllBecome};
+    ghost use Rattle.home_tables.specs.Replacing.{Replaces};
 
     /// A home without entries.
     pub fn new(alloc: Global, watermark: Lsn) -> Result<Home, WantOfMemory>
@@ -138,9 +141,21 @@ impl Home {
         })
     }
 
+    /// Takes every entry out. The watermark is that one from now on.
+    pub fn clear(&mut self, watermark: Lsn)
+        ensures none { self.new.entries ≡ [] }
+        ensures watermark { self.new.watermark ≡ watermark }
+    {
+        self.entries.clear();
+        self.idle.clear();
+        self.due.clear();
+        self.watermark = watermark;
+    }
+
     /// The floor of pages that have no entry.
     pub fn watermark(&self) -> Lsn
-        ensures { result ≡ self.now.watermark }
+        ensures value { result ≡ self.now.watermark }
+        ensures pages { (p : ℕ) → 32768 ≤ p → kept self.now p ≡ None }
     {
         self.watermark
     }
@@ -203,13 +218,21 @@ impl Home {
         }
     }
 
-    fn enter_new(&mut self, page: PageId, node: NodeId, fresh: Addr) -> Result<(), WantOfMemory>
+    fn enter_new(
+        &mut self,
+        page: PageId,
+        node: NodeId,
+        fresh: Addr,
+        floor: Lsn,
+    ) -> Result<(), WantOfMemory>
         requires { is_some (kept self.old page) ≡ false }
-        ensures entered { OnOk result (entry_at self.new ≡ put (entry_at self.old) page (registered (entry_at self.old page) self.old.watermark (address_number fresh) node)) }
+        ensures entered { OnOk result (entry_at self.new ≡ put (entry_at self.old) page
+            (registered (entry_at self.old page) floor (address_number fresh) node)) }
         ensures watermark { self.new.watermark ≡ self.old.watermark }
         ensures err { OnErr result (self.new ≡ self.old) }
     {
-        let entry = Entry::entered(page, node, fresh, self.watermark);
+        let _number = page.number();
+        let entry = Entry::entered(page, node, fresh, floor);
         self.entries.insert(page, entry)?;
         Ok(())
     }
@@ -217,7 +240,8 @@ impl Home {
     fn enter_lost(&mut self, page: PageId, node: NodeId, fresh: Addr)
         requires there { is_some (kept self.old page) ≡ true }
         requires slot { takes_slot (entry_at self.old page) ≡ true }
-        ensures entered { entry_at self.new ≡ put (entry_at self.old) page (registered (entry_at self.old page) self.old.watermark (address_number fresh) node) }
+        ensures entered { (floor : ℕ) → entry_at self.new ≡ put (entry_at self.old) page
+            (registered (entry_at self.old page) floor (address_number fresh) node) }
         ensures watermark { self.new.watermark ≡ self.old.watermark }
     {
         let Some(entry) = self.entries.get_mut(&page) else {
@@ -226,11 +250,16 @@ impl Home {
         entry.enter(node, fresh);
     }
 
-    /// The node registers the page, which has no entry or has lost its slot, and gets the slot at the
-    /// address.
-    pub fn enter(&mut self, page: PageId, node: NodeId, fresh: Addr) -> Result<(), WantOfMemory>
+    fn enter_above(
+        &mut self,
+        page: PageId,
+        node: NodeId,
+        fresh: Addr,
+        floor: Lsn,
+    ) -> Result<(), WantOfMemory>
         requires { takes_slot (entry_at self.old page) ≡ true }
-        ensures entered { OnOk result (entry_at self.new ≡ put (entry_at self.old) page (registered (entry_at self.old page) self.old.watermark (address_number fresh) node)) }
+        ensures entered { OnOk result (entry_at self.new ≡ put (entry_at self.old) page
+            (registered (entry_at self.old page) floor (address_number fresh) node)) }
         ensures watermark { self.new.watermark ≡ self.old.watermark }
         ensures err { OnErr result (self.new ≡ self.old) }
     {
@@ -238,9 +267,37 @@ impl Home {
             self.enter_lost(page, node, fresh);
             return Ok(());
         }
-        self.enter_new(page, node, fresh)
+        self.enter_new(page, node, fresh, floor)
     }
 
+    /// The node registers the page, which has no entry or has lost its slot, and gets the slot at the
+    /// address.
+    pub fn enter(&mut self, page: PageId, node: NodeId, fresh: Addr) -> Result<(), WantOfMemory>
+        requires { takes_slot (entry_at self.old page) ≡ true }
+        ensures entered { OnOk result (entry_at self.new ≡ put (entry_at self.old) page
+            (registered (entry_at self.old page) self.old.watermark (address_number fresh) node)) }
+        ensures watermark { self.new.watermark ≡ self.old.watermark }
+        ensures err { OnErr result (self.new ≡ self.old) }
+    {
+        self.enter_above(page, node, fresh, self.watermark)
+    }
+
+    /// Takes the entry of the page out.
+    fn remove(&mut self, page: PageId) -> Option<Entry>
+        ensures entry { result ≡ kept self.old page }
+        ensures gone { kept self.new page ≡ None }
+        ensures beside { (q : ℕ) → q ≢ page → kept self.new q ≡ kept self.old q }
+        ensures watermark { self.new.watermark ≡ self.old.watermark }
+        ensures same { IsNone result → self.new ≡ self.old }
+    {
+        let entry = self.entries.swap_remove(&page)?;
+        let nobody = NodeSet::new();
+        mark_idle(&mut self.idle, page, entry.addr, false);
+        mark_due(&mut self.due, page, &nobody);
+        Some(entry)
+    }
+
+    #[tactic(auto, using(crate::proofs::Losing::put_of))]
     /// Gives the page away: its entry goes, and the watermark rises to what it knew. None exactly where
     /// it has none.
     pub fn give_away(&mut self, page: PageId) -> Option<Entry>
@@ -250,12 +307,39 @@ impl Home {
         ensures watermark { IfSome result (λ entry. self.new.watermark ≡ raised (entry_at self.old page) self.old.watermark) }
         ensures same { IsNone result → self.new ≡ self.old }
     {
-        let entry = self.entries.swap_remove(&page)?;
-        let nobody = NodeSet::new();
-        mark_idle(&mut self.idle, page, entry.addr, false);
-        mark_due(&mut self.due, page, &nobody);
+        let entry = self.remove(page)?;
         self.watermark = later(self.watermark, later(entry.lsn, entry.floor));
         Some(entry)
+    }
+
+    /// The watermark after the page was given away.
+    fn watermark_without(&self, page: PageId) -> Lsn
+        ensures { result ≡ raised (entry_at self.now page) self.now.watermark }
+    {
+        match self.entries.get(&page) {
+            Some(entry) => later(self.watermark, later(entry.lsn, entry.floor)),
+            None => self.watermark,
+        }
+    }
+
+    /// The node registers the page, which has no entry or has lost its slot, and gets the slot of
+    /// another page, which is given away for it first.
+    pub fn replace(
+        &mut self,
+        given: PageId,
+        page: PageId,
+        node: NodeId,
+        slot: Addr,
+    ) -> Result<(), WantOfMemory>
+        requires takes { takes_slot (entry_at self.old page) ≡ true }
+        requires given { (entry_at self.old given).address ≡ Some (address_number slot) }
+        ensures replaced { OnOk result (Replaces self.old self.new given page node (address_number slot)) }
+        ensures err { OnErr result (self.new ≡ self.old) }
+    {
+        let floor = self.watermark_without(given);
+        self.enter_above(page, node, slot, floor)?;
+        self.give_away(given);
+        Ok(())
     }
 
     /// The least page that may be given away for its slot of the slab.
@@ -308,5 +392,86 @@ impl Home {
         let (page, node) = self.first_due(up)?;
         self.strike(page, node);
         Some((page, node))
+    }
+
+    fn kick_at(&mut self, page: PageId, node: NodeId)
+        ensures { Becomes self.old self.new page (kept_from node) }
+    {
+        if let Some(entry) = self.entries.get_mut(&page) {
+            entry.kick(node);
+            let is_idle = entry.is_idle();
+            let addr = entry.addr;
+            mark_idle(&mut self.idle, page, addr, is_idle);
+            mark_due(&mut self.due, page, &entry.due);
+        }
+    }
+
+    /// The node has neither a reference nor a due pair nor a latch of any page.
+    pub fn release_all(&mut self, node: NodeId)
+        ensures { AllBecome self.old self.new (kept_from node) }
+    {
+        let _watermark = self.watermark;
+        for number in 0..PAGES {
+            self.kick_at(page_of(number, 0), node);
+        }
+    }
+
+    fn lose_at(&mut self, page: PageId, slab: SlabId)
+        ensures { Becomes self.old self.new page (lost_on slab) }
+    {
+        if let Some(entry) = self.entries.get_mut(&page) {
+            let addr = entry.addr;
+            entry.lose(slab);
+            let is_offered = entry.is_offered();
+            mark_idle(&mut self.idle, page, addr, is_offered);
+        }
+    }
+
+    /// The slab is lost, and each page loses the slot that it has there.
+    pub fn drop_slab(&mut self, slab: SlabId)
+        ensures { AllBecome self.old self.new (lost_on slab) }
+    {
+        let _watermark = self.watermark;
+        for number in 0..PAGES {
+            self.lose_at(page_of(number, 0), slab);
+        }
+    }
+
+    fn settle_at(&mut self, page: PageId, tail: Lsn)
+        requires { stays (entry_at self.old page) tail ≡ true }
+        ensures { Becomes self.old self.new page (swept_to tail) }
+    {
+        if let Some(entry) = self.entries.get_mut(&page) {
+            entry.settle(tail);
+            let is_idle = entry.is_idle();
+            let addr = entry.addr;
+            mark_idle(&mut self.idle, page, addr, is_idle);
+            mark_due(&mut self.due, page, &entry.due);
+        }
+    }
+
+    /// Sweeps the page at the tail: its entry goes, or stays with no node. The answer is the slot that
+    /// is free again.
+    pub fn sweep_page(&mut self, page: PageId, tail: Lsn) -> Option<Addr>
+        ensures swept { Becomes self.old self.new page (swept_to tail) }
+        ensures freed { result ≡ freed_by tail (kept self.old page) }
+    {
+        let stays = match self.entries.get(&page) {
+            Some(entry) => entry.stays(tail),
+            None => return None,
+        };
+        if stays {
+            self.settle_at(page, tail);
+            return None;
+        }
+        let entry = self.remove(page)?;
+        entry.addr
+    }
+
+    /// Sets the floor of pages that have no entry.
+    pub fn set_watermark(&mut self, at: Lsn)
+        ensures { self.new ≡ record self.old { watermark = at } }
+    {
+        self.watermark = at;
     }
 }

@@ -1,4 +1,4 @@
-ghost use Rattle.std.specs.Prelude.{◌≡◌, ◌≤◌, ◌<◌, ◌+◌, ◌*◌, ◌/◌, ℕ, false, length, slice_set, IfOk, IfSome, IsNone, MatchOption};
+ghost use Rattle.std.specs.Prelude.{◌≡◌, ◌≤◌, ◌<◌, ◌+◌, ◌*◌, ◌/◌, ℕ, false, length, replicate, slice_set, IfOk, IfSome, IsNone, MatchOption};
 ghost use Rattle.home_tables.specs.Numbers.{has, HasNone, IsLeast};
 
 use rm_base::WantOfMemory;
@@ -44,6 +44,12 @@ fn first_member(members: &[bool], low: usize, high: usize) -> Option<usize>
     None
 }
 
+fn clear_all(marks: &mut Vec<bool>)
+    ensures { marks.new.items ≡ replicate (length marks.old.items) false }
+{
+    marks.as_mut_slice().fill(false);
+}
+
 impl NumberSet {
     #[tactic(auto, using(crate::proofs::Numbers::none_marked, crate::proofs::Numbers::has_blank, crate::proofs::Numbers::long_enough))]
     /// A set without numbers, for `sets` sets of pages.
@@ -55,6 +61,16 @@ impl NumberSet {
         let members = vec![in alloc; false; count * GROUP]?;
         let groups = vec![in alloc; false; count]?;
         Ok(NumberSet { members, groups })
+    }
+
+    #[tactic(auto, using(crate::proofs::Numbers::none_marked, crate::proofs::Numbers::has_blank, crate::proofs::Numbers::long_enough))]
+    /// Takes every number out.
+    pub fn clear(&mut self)
+        ensures bound { length self.new ≡ length self.old }
+        ensures none { (x : ℕ) → has self.new x ≡ false }
+    {
+        clear_all(&mut self.members);
+        clear_all(&mut self.groups);
     }
 
     /// The bound of its numbers.

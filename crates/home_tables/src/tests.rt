@@ -1,6 +1,7 @@
 use crate::{Access, Home};
-use page_latches::{Latch, Mode, NodeSet};
+use page_latches::NodeSet;
 use rm_base::{Addr, Incarnation, Lsn, NodeId, PageId, SlabId, WantOfMemory};
+use std::alloc::Global;
 use std::test::Fail;
 
 /// Registers the page for the node, with its slot where it has one.
@@ -17,40 +18,73 @@ fn register(home: &mut Home, page: PageId, node: NodeId, slot: u16) -> Result<()
     home.enter(page, node, fresh)
 }
 
+/// A home with one page, which a node registered.
+fn home_with(alloc: Global, page: PageId, node: NodeId) -> Result<Home, WantOfMemory> {
+    let mut home = Home::new(alloc, Lsn::new(5))?;
+    register(&mut home, page, node, 3)?;
+    Ok(home)
+}
+
 #[test]
-fn a_page_is_entered_once_and_given_away(rt: HostRuntime) -> Result<(), Fail> {
-    let mut home = Home::new(rt.alloc(), Lsn::new(5))?;
+fn a_page_is_entered_with_bit_1(rt: HostRuntime) -> Result<(), Fail> {
     let page = PageId::new(9).ok_or("page")?;
-    let one = NodeId::new(0).ok_or("one")?;
-    register(&mut home, page, one, 3)?;
-    assert_eq!(rt; home.entry(page).map(|entry| entry.bit), Some(true));
-    assert_eq!(rt; home.entry(page).map(|entry| entry.floor.number()), Some(5));
-    assert!(rt; !home.entry(page).is_some_and(|entry| entry.is_idle()));
+    let home = home_with(rt.alloc(), page, NodeId::default())?;
+    assert!(rt;
+        home.entry(page)
+            .is_some_and(|entry| entry.bit && entry.floor.number() == 5)
+    );
+    Ok(())
+}
+
+#[test]
+fn a_page_is_given_away(rt: HostRuntime) -> Result<(), Fail> {
+    let page = PageId::new(9).ok_or("page")?;
+    let mut home = home_with(rt.alloc(), page, NodeId::default())?;
     home.access(page, Access::Clean(Lsn::new(8)));
-    home.access(page, Access::Unregister(one));
-    assert!(rt; home.entry(page).is_some_and(|entry| entry.is_idle()));
     assert!(rt; home.give_away(page).is_some());
     assert_eq!(rt; home.watermark().number(), 8);
-    assert!(rt; home.entry(page).is_none());
     Ok(())
 }
 
 #[test]
 fn the_first_due_page_at_a_node_that_is_up(rt: HostRuntime) -> Result<(), Fail> {
-    let mut home = Home::new(rt.alloc(), Lsn::new(5))?;
     let page = PageId::new(9).ok_or("page")?;
-    let one = NodeId::new(0).ok_or("one")?;
-    let two = NodeId::new(1).ok_or("two")?;
-    let three = NodeId::new(2).ok_or("three")?;
-    register(&mut home, page, one, 3)?;
-    register(&mut home, page, two, 3)?;
-    register(&mut home, page, three, 3)?;
+    let other = NodeId::new(2).ok_or("other")?;
+    let mut home = home_with(rt.alloc(), page, other)?;
     let mut nodes = NodeSet::new();
-    nodes.insert(one);
-    nodes.insert(three);
-    assert!(rt; matches!(home.try_latch(page, one, Mode::X), Some(Latch::Granted)));
-    home.invalidate(page, one, &nodes);
+    nodes.insert(other);
+    home.invalidate(page, NodeId::default(), &nodes);
     assert_eq!(rt; home.turn(&nodes).map(|pair| pair.1.number()), Some(2));
     assert!(rt; home.turn(&nodes).is_none());
+    Ok(())
+}
+
+#[test]
+fn a_node_is_struck(rt: HostRuntime) -> Result<(), Fail> {
+    let page = PageId::new(9).ok_or("page")?;
+    let mut home = home_with(rt.alloc(), page, NodeId::default())?;
+    home.release_all(NodeId::default());
+    assert!(rt; home.idle_page(SlabId::default()) == Some(page));
+    Ok(())
+}
+
+#[test]
+fn a_slab_is_lost(rt: HostRuntime) -> Result<(), Fail> {
+    let page = PageId::new(9).ok_or("page")?;
+    let mut home = home_with(rt.alloc(), page, NodeId::default())?;
+    home.drop_slab(SlabId::default());
+    assert!(rt; home.takes_slot(page));
+    Ok(())
+}
+
+#[test]
+fn a_sweep_frees_the_slot_of_a_page_with_bit_1(rt: HostRuntime) -> Result<(), Fail> {
+    let page = PageId::new(9).ok_or("page")?;
+    let mut home = home_with(rt.alloc(), page, NodeId::default())?;
+    assert!(rt;
+        home.sweep_page(page, Lsn::new(8))
+            .is_some_and(|slot| slot.slot == 3)
+    );
+    assert!(rt; home.entry(page).is_none());
     Ok(())
 }

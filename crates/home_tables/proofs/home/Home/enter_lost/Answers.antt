@@ -26,13 +26,14 @@ invariant_of-self-2 c =
 
 pub returns-clause-entered : goal.returns-clause-entered
 returns-clause-entered c =
+    λ floor.
     let e' = c.enter.new.self in
     let es = c.self.inside.entries.entries in
     let w = c.self.inside.watermark in
     let a = address_number c.args.fresh in
     let found : kept_in es c.args.page ≡ Some c.in-Some.entry.now = sym c.in-Some.ensures.value in
-    subst (λ (H : HomeState). entry_at (home_of (c.get_mut.follows.lender e').entries w) ≡ put (entry_at H) c.args.page (registered (entry_at H c.args.page) H.watermark a c.args.node)) c.self.view_is
+    subst (λ (H : HomeState). entry_at (home_of (c.get_mut.follows.lender e').entries w) ≡ put (entry_at H) c.args.page (registered (entry_at H c.args.page) floor a c.args.node)) c.self.view_is
     (
-    subst (λ (new : List (ℕ × Entry)). entry_at (home_of new w) ≡ put (entry_at (home_of es w)) c.args.page (registered (entry_at (home_of es w) c.args.page) w a c.args.node)) (sym (c.get_mut.follows.holds e').0)
-    (changed_at es c.args.page c.in-Some.entry.now e' (λ E. registered E w a c.args.node) found (c.enter.ensures.model w))
+    subst (λ (new : List (ℕ × Entry)). entry_at (home_of new w) ≡ put (entry_at (home_of es w)) c.args.page (registered (entry_at (home_of es w) c.args.page) floor a c.args.node)) (sym (c.get_mut.follows.holds e').0)
+    (changed_at es c.args.page c.in-Some.entry.now e' (λ E. registered E floor a c.args.node) found (c.enter.ensures.model floor))
     )

@@ -1,4 +1,4 @@
-use Rattle.std.proofs.Common.{◌≡◌, ◌≤◌, ◌<◌, ◌∙◌, ℕ, Bool, true, false, List, ◌&&◌, IsSome, Some, None, Option, nat_eq, cond, length, if◌then◌else◌, refl, sym, ap, subst, arith}
+use Rattle.std.proofs.Common.{◌≡◌, ◌≢◌, eqb-true, ◌≤◌, ◌<◌, ◌∙◌, ℕ, Bool, true, false, List, ◌&&◌, IsSome, Some, None, Option, nat_eq, cond, length, if◌then◌else◌, refl, sym, ap, subst, arith}
 use Rattle.std.specs.Map.{set_value}
 use Rattle.std.specs.Option.{is_some}
 use Rattle.home_model.specs.Numbered.{put, nobody}
@@ -7,7 +7,7 @@ use Rattle.home_tables.specs.Table.{address_number, entry_of}
 use Rattle.home_tables.specs.Home.{HomeState, home_of, kept_in, kept, entry_at, AreKept}
 use Rattle.home_tables.specs.declared.entry.Entry.{Entry}
 use Rattle.home_tables.proofs.Entries.{changed_at, put_at, at_put, lost_slot, not_found, kept_none, kept_entered, kept_added, kept_removed}
-use Rattle.home_tables.proofs.home.Home.give_away.Goals as goal
+use Rattle.home_tables.proofs.home.Home.remove.Goals as goal
 
 pub mark_idle-requires : goal.mark_idle-requires
 mark_idle-requires c = c.self.invariant.room.0
@@ -23,9 +23,25 @@ invariant_of-self-2 c =
     kept_removed es new c.self.inside.idle c.mark_idle.new.idle c.self.inside.due c.mark_due.new.due c.args.page c.in_ok-entry.entry c.new-nobody.result c.self.invariant found
     (at_put es new c.args.page None c.in_ok-entry.ensures.updates.0) c.mark_idle.ensures.marks c.mark_idle.ensures.bound c.new-nobody.ensures.members c.mark_due.ensures.marks c.mark_due.ensures.bound
 
+here_none : (es : List (ℕ × Entry)) (p : ℕ) (b : Bool) → b ≡ true → (if b then None else kept_in es p) ≡ None
+here_none es p true h = refl
+here_none es p false h = absurd cc
+
+not_here : (es : List (ℕ × Entry)) (p q : ℕ) (b : Bool) → nat_eq q p ≡ b → q ≢ p → (if b then None else kept_in es q) ≡ kept_in es q
+not_here es p q true t apart = absurd (apart (eqb-true q p t))
+not_here es p q false t apart = refl
+
 pub returns-clause-gone : goal.returns-clause-gone
 returns-clause-gone c =
     let es = c.self.inside.entries.entries in
+    let p : ℕ = c.args.page in
+    let same : nat_eq p p ≡ true = grind arith in
+    at_put es c.swap_remove.new.self.entries p None c.in_ok-entry.ensures.updates.0 p ∙ here_none es p (nat_eq p p) same
+
+pub returns-clause-beside : goal.returns-clause-beside
+returns-clause-beside c =
+    λ q apart.
+    let es = c.self.inside.entries.entries in
     let new = c.swap_remove.new.self.entries in
-    subst (λ (H : HomeState). entry_at (home_of new c.later-self-inside.result) ≡ put (entry_at H) c.args.page no_entry) c.self.view_is
-    (put_at es new c.args.page None (at_put es new c.args.page None c.in_ok-entry.ensures.updates.0))
+    let p : ℕ = c.args.page in
+    subst (λ (H : HomeState). kept_in new q ≡ kept H q) c.self.view_is (at_put es new p None c.in_ok-entry.ensures.updates.0 q ∙ not_here es p q (nat_eq q p) refl apart)

@@ -1,0 +1,37 @@
+use Rattle.std.proofs.Common.{◌≡◌, ◌≤◌, ◌<◌, ◌∙◌, ℕ, Bool, true, false, List, ◌&&◌, IsSome, Some, None, Option, nat_eq, length, if◌then◌else◌, refl, sym, ap, subst, arith}
+use Rattle.std.specs.Map.{set_value}
+use Rattle.std.specs.Option.{is_some}
+use Rattle.home_model.specs.Entry.{Entry as HomeEntry, no_entry, stays}
+use Rattle.home_tables.specs.Numbers.{has_page}
+use Rattle.home_tables.specs.Table.{entry_of, is_idle, is_on}
+use Rattle.home_tables.specs.Home.{HomeState, home_of, kept, kept_in, entry_at, AreKept}
+use Rattle.home_tables.specs.Losing.{Becomes, AllBecome, kept_from, lost_on, swept_to}
+use Rattle.home_tables.specs.declared.entry.Entry.{Entry}
+use Rattle.home_tables.proofs.Entries.{kept_both, kept_lost}
+use Rattle.home_tables.proofs.Losing.{BecomeBelow, become_none, become_more, become_all, becomes, becomes_none, kick_none}
+use Rattle.home_tables.proofs.home.Home.lose_at.Goals as goal
+
+pub mark_idle-requires : goal.mark_idle-requires
+mark_idle-requires c = c.self.invariant.room.0
+
+pub invariant_of-self : goal.invariant_of-self
+invariant_of-self c =
+    let e = c.in-Some.entry.now in
+    let e' = c.lose.new.self in
+    let es = c.self.inside.entries.entries in
+    let found : kept_in es c.args.page ≡ Some e = sym c.in-Some.ensures.value in
+    subst (λ (new : List (ℕ × Entry)). AreKept new c.mark_idle.new.idle c.self.inside.due) (sym (c.get_mut.follows.holds e').0)
+    (
+    kept_lost es c.self.inside.idle c.mark_idle.new.idle c.self.inside.due c.args.page c.args.slab e e' c.is_offered-is_offered.result c.self.invariant found c.lose.ensures.slot c.lose.ensures.idle
+    c.lose.ensures.nodes c.is_offered-is_offered.ensures c.mark_idle.ensures.marks c.mark_idle.ensures.bound
+    )
+
+pub returns-in-Some : goal.returns-in-Some
+returns-in-Some c =
+    let e' = c.lose.new.self in
+    let es = c.self.inside.entries.entries in
+    let w = c.self.inside.watermark in
+    let found : kept_in es c.args.page ≡ Some c.in-Some.entry.now = sym c.in-Some.ensures.value in
+    subst (λ (H : HomeState). Becomes H (home_of (c.get_mut.follows.lender e').entries w) c.args.page (lost_on c.args.slab)) c.self.view_is
+    (subst (λ (new : List (ℕ × Entry)). Becomes (home_of es w) (home_of new w) c.args.page (lost_on c.args.slab)) (sym (c.get_mut.follows.holds e').0)
+    (becomes es w c.args.page c.in-Some.entry.now e' (lost_on c.args.slab) found c.lose.ensures.model))
