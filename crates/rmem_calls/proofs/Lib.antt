@@ -1,0 +1,5 @@
+pub mod Choosing
+pub mod Answers
+pub mod Marking
+pub mod SeatingLemmas
+pub mod EachPage

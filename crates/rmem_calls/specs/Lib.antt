@@ -1,0 +1,5 @@
+pub mod Giving
+pub mod Registering
+pub mod Invalidating
+pub mod Seeing
+pub mod Seating
