@@ -1,0 +1,11 @@
+pub mod Acts
+pub mod InTurn
+pub mod PageMoves
+pub mod Clauses
+pub mod Joint
+pub mod Ending
+pub mod Shorter
+pub mod WholePlan
+pub mod PageKept
+pub mod Spans
+pub mod Holding

@@ -1,0 +1,10 @@
+pub mod Telling
+pub mod Work
+pub mod Hearing
+pub mod Moves
+pub mod Fetching
+pub mod Progress
+pub mod Together
+pub mod Told
+pub mod Beginning
+pub mod ActsLeft
