@@ -1,0 +1,13 @@
+pub mod Versions
+pub mod Tables
+pub mod Counting
+pub mod Undoing
+pub mod Trees
+pub mod Holds
+pub mod Keeping
+pub mod Storing
+pub mod Meaning
+pub mod Example
+pub mod Single
+pub mod Laws
+pub mod Run
