@@ -1,0 +1,17 @@
+pub mod Records
+pub mod Growing
+pub mod KeyLaws
+pub mod Sites
+pub mod Lists
+pub mod Trees
+pub mod Placing
+pub mod Pushing
+pub mod Rows
+pub mod CountLaws
+pub mod Creates
+pub mod Undoes
+pub mod Splitting
+pub mod Following
+pub mod Entries
+pub mod Example
+pub mod Applying

@@ -1,0 +1,5 @@
+use Rattle.plan_steps.proofs.Example.{example_runs}
+use Rattle.plan_steps.proofs.laws.example_laws.Goals as goal
+
+pub returns : goal.returns
+returns c = record { runs = example_runs }

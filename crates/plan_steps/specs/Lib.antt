@@ -1,0 +1,12 @@
+pub mod Growth
+pub mod KeyItems
+pub mod Parts
+pub mod RowChanges
+pub mod Counting
+pub mod Creates
+pub mod UndoSteps
+pub mod Splitting
+pub mod GrowthLaws
+pub mod Entries
+pub mod Example
+pub mod Applying
