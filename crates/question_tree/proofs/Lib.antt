@@ -1,0 +1,2 @@
+pub mod OverNumbers
+pub mod QuestionLaws
