@@ -1,0 +1,17 @@
+//! The versions of a range of keys that a reader sees, over pages that are handed in one by one.
+#![tactic(auto)]
+
+mod fetch;
+mod items;
+mod laws;
+mod reader;
+mod stepping;
+#[cfg(test)]
+mod tests;
+mod versions;
+
+pub use fetch::{Fetch, MOST_FETCHES, MOST_VERSIONS, Snapshot};
+pub use items::copy_of;
+pub use laws::{found_law, order_law};
+pub use reader::RangeReader;
+pub use stepping::step;
