@@ -1,0 +1,5 @@
+pub mod AnswerLaws
+pub mod DecodingLaws
+pub mod ProgressLaws
+pub mod ReaderLaws
+pub mod SpellingLaws

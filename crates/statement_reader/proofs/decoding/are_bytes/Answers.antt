@@ -1,0 +1,4 @@
+use Rattle.statement_reader.proofs.decoding.are_bytes.Goals as goal
+
+pub returns : goal.returns
+returns c = λ k. (c.type_inv.bytes k).fits

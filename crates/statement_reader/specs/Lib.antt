@@ -1,0 +1,5 @@
+pub mod Answered
+pub mod Decoding
+pub mod Machine
+pub mod Question
+pub mod Spelling
