@@ -1,0 +1,17 @@
+pub mod Rising
+pub mod Chains
+pub mod Leading
+pub mod Searching
+pub mod Sorting
+pub mod Ranges
+pub mod Telling
+pub mod States
+pub mod Naming
+pub mod Rows
+pub mod Opening
+pub mod Imaging
+pub mod ReadLaws
+pub mod GoingOn
+pub mod Example
+pub mod Others
+pub mod Entries

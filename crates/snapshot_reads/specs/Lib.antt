@@ -1,0 +1,9 @@
+pub mod Times
+pub mod Pasts
+pub mod Keeping
+pub mod Told
+pub mod Tables
+pub mod Open
+pub mod Writing
+pub mod Laws
+pub mod Example
