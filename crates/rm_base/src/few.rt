@@ -1,4 +1,4 @@
-ghost use Rattle.std.specs.Prelude.{◌≡◌, [], ◌∷◌, ◌++◌, length, ◌<◌, ◌≤◌, ◌↔◌, slice_get, IsOk, IsTrue, OnOk, OnErr};
+ghost use Rattle.std.specs.Prelude.{◌≡◌, [], ◌∷◌, ◌++◌, length, ◌<◌, ◌≤◌, ◌↔◌, slice_get, IsOk, IsSome, IsTrue, OnOk, OnErr};
 ghost use Rattle.std.specs.List.{remove};
 ghost use Rattle.std.specs.Option.{option_copied, option_copied_mut, option_to_list};
 ghost use types.Logic.{sem};
@@ -82,9 +82,10 @@ impl<T: Default, const N: usize> Default for Few<T, N> {
 }
 
 impl<T: Default + Drop, const N: usize> Few<T, N> {
-    /// Takes the last item off.
+    /// Takes the last item off. None exactly where the list is empty.
     pub fn pop(&mut self) -> Option<T>
-        ensures { self.old ≡ self.new ++ option_to_list result }
+        ensures last { self.old ≡ self.new ++ option_to_list result }
+        ensures some { IsSome result ↔ (0 < length self.old) }
     {
         self.items.pop()
     }

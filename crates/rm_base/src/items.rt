@@ -1,4 +1,4 @@
-ghost use Rattle.std.specs.Prelude.{◌≡◌, [], ◌∷◌, ◌++◌, length, ◌<◌, ◌^◌, slice_get, IfOk, OnOk, OnErr, IsTrue, ◌↔◌};
+ghost use Rattle.std.specs.Prelude.{◌≡◌, [], ◌∷◌, ◌++◌, length, ◌<◌, ◌^◌, slice_get, IfOk, IsSome, OnOk, OnErr, IsTrue, ◌↔◌};
 ghost use Rattle.std.specs.List.{remove};
 ghost use Rattle.std.specs.Option.{option_copied, option_copied_mut, option_to_list};
 ghost use types.Logic.{sem};
@@ -80,9 +80,10 @@ impl<T> Items<T> {
         self.items.get_mut(at)
     }
 
-    /// Takes the last item off.
+    /// Takes the last item off. None exactly where the list is empty.
     pub fn pop(&mut self) -> Option<T>
-        ensures { self.old ≡ self.new ++ option_to_list result }
+        ensures last { self.old ≡ self.new ++ option_to_list result }
+        ensures some { IsSome result ↔ (0 < length self.old) }
     {
         self.items.pop()
     }
