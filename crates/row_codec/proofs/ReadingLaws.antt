@@ -16,9 +16,9 @@ use Rattle.sql_values.specs.declared.values.Sort.TheVariants as sort
 use Rattle.sql_values.specs.declared.schemas.Column.{Column}
 use Rattle.sql_values.specs.declared.schemas.Schema.{Schema}
 use Rattle.sql_values.specs.Order.{Fits}
-use Rattle.row_codec.specs.Keys.{rank, key_bytes}
+use Rattle.row_codec.specs.Keys.{IsKey, rank, key_bytes}
 use Rattle.row_codec.specs.Records.{cell_bytes, cells_bytes, record_length, key_cell, FitColumns, AreI64, IsRecord, OneRow}
-use Rattle.row_codec.specs.Reading.{read_int, read_text, read_cell, read_onto, read_key, whole, read_row, IsRowOrNone}
+use Rattle.row_codec.specs.Reading.{ReadsKeysBack, read_int, read_text, read_cell, read_onto, read_key, whole, read_row, IsRowOrNone}
 
 some_is : {A : Type 0} {x y : A} → Some x ≡ Some y → x ≡ y
 some_is e = cc
@@ -295,6 +295,11 @@ key_read sort.Int (Int z) f i h =
     passed (nat_eq (length (field 8 (rank z))) 8) (Int (negsuc 9223372036854775807 +ℤ pos (number 8 (field 8 (rank z))))) (nat_eq_true (length (field 8 (rank z))) 8 eight)
     ∙ ap (λ (q : ℕ). Some (Int (negsuc 9223372036854775807 +ℤ pos q))) back
     ∙ ap (λ (q : ℤ). Some (Int q)) (from_rank z i.0)
+
+pub reads_back : ReadsKeysBack
+reads_back s Null is f = absurd is
+reads_back s (Int z) is f = key_read s (Int z) f (is, tt) (λ e. cc)
+reads_back s (Text t) is f = key_read s (Text t) f tt (λ e. cc)
 
 -- ---- rows
 

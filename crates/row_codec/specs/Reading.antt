@@ -1,5 +1,5 @@
 -- Stated: how a value's bytes are read, cell after cell.
-use Rattle.std.specs.Prelude.{◌+◌, ℕ, ◌&&◌, nat_eq, nat_le, List, [], ◌∷◌, ◌++◌, length, take, drop, negsuc, pos, ◌+ℤ◌, Option, Some, None, option_and_then, if◌then◌else◌, MatchOption}
+use Rattle.std.specs.Prelude.{◌≡◌, ◌+◌, ℕ, ◌&&◌, nat_eq, nat_le, List, [], ◌∷◌, ◌++◌, length, take, drop, negsuc, pos, ◌+ℤ◌, Option, Some, None, option_and_then, if◌then◌else◌, MatchOption}
 use Rattle.std.specs.Int.{w64, cast_signed}
 use Rattle.rm_base.specs.Fields.{number}
 use Rattle.sql_values.specs.declared.values.Value.{Value}
@@ -8,6 +8,8 @@ use Rattle.sql_values.specs.declared.values.Sort.{Sort}
 use Rattle.sql_values.specs.declared.values.Sort.TheVariants as sort
 use Rattle.sql_values.specs.declared.schemas.Column.{Column}
 use Rattle.sql_values.specs.declared.schemas.Schema.{Schema}
+use Rattle.sql_values.specs.Order.{Fits}
+use Rattle.row_codec.specs.Keys.{IsKey, key_bytes}
 use Rattle.row_codec.specs.Records.{IsRecord}
 
 -- the INT of 8 bytes in two's complement, with the bytes of its cell
@@ -40,6 +42,10 @@ abbrev pub read_key : Sort → List ℕ → Option Value
 read_key sort.Int key =
     if nat_eq (length key) 8 then Some (Int (negsuc 9223372036854775807 +ℤ pos (number 8 key))) else None
 read_key sort.Text key = Some (Text key)
+
+-- what was spelled is what is read
+abbrev pub ReadsKeysBack : Type 0
+ReadsKeysBack = (s : Sort) (key : Value) → IsKey key → Fits key s → read_key s (key_bytes key) ≡ Some key
 
 -- the row, where no byte is left
 abbrev pub whole : Option (List Value × List ℕ) → Option (List Value)

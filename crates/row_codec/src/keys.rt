@@ -1,6 +1,7 @@
 ghost use Rattle.std.specs.Prelude.{◌≡◌, ◌≢◌, ◌≤◌, length, IfOk};
 ghost use Rattle.std.specs.Result.{OkIff};
 ghost use Rattle.row_codec.specs.Keys.{key_bytes, OrderedAsKeys, TellKeysApart};
+ghost use Rattle.row_codec.specs.Reading.{ReadsKeysBack};
 
 use crate::TooLarge;
 use rm_base::{Bytes, MAX_KEY_BYTES, WantOfMemory, put_u64};
@@ -30,10 +31,11 @@ pub fn key_of(alloc: Global, value: &Value) -> Result<Result<Bytes, TooLarge>, W
     Ok(Ok(key))
 }
 
-/// Key bytes are ordered as the keys of one sort are, and only equal keys have equal bytes. It does
-/// nothing when it is run.
-#[tactic(auto, using(crate::proofs::KeyLaws::ordered, crate::proofs::KeyLaws::apart))]
+/// Key bytes are ordered as the keys of one sort are, only equal keys have equal bytes, and a key is read back
+/// from its bytes. It does nothing when it is run.
+#[tactic(auto, using(crate::proofs::KeyLaws::ordered, crate::proofs::KeyLaws::apart, crate::proofs::ReadingLaws::reads_back))]
 pub fn key_laws()
     ensures ordered { OrderedAsKeys }
     ensures apart { TellKeysApart }
+    ensures back { ReadsKeysBack }
 {}

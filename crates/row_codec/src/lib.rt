@@ -11,7 +11,7 @@ mod spelling;
 pub use fitting::fits_schema;
 pub use keys::{key_laws, key_of};
 pub use lengths::fits_record;
-pub use reading::{row_laws, row_of};
+pub use reading::{key_in, row_laws, row_of};
 pub use spelling::value_of;
 use thiserror::Error;
 

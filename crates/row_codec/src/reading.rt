@@ -136,7 +136,8 @@ fn text_in(alloc: Global, sort: Sort, rest: &[u8]) -> Result<Option<(Value, usiz
     Ok(Some((Value::Text(text), 3 + n)))
 }
 
-fn key_in(alloc: Global, sort: Sort, key: &[u8]) -> Result<Option<Value>, WantOfMemory>
+/// The value of the sort that has these key bytes. None exactly for an INT whose key is not 8 bytes long.
+pub fn key_in(alloc: Global, sort: Sort, key: &[u8]) -> Result<Option<Value>, WantOfMemory>
     ensures { IfOk result (λ value. value ≡ read_key sort key.now) }
 {
     match sort {

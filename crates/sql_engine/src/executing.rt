@@ -34,6 +34,7 @@ pub fn execute<T: TableStore>(
         Outcome::Rows(rows) => Ok(SqlReply::Rows(rows)),
         Outcome::Refused(reply) => Ok(reply),
         Outcome::Changes(changes) => make(alloc, store, statement, &changes),
+        Outcome::Duplicate(repeated) => Ok(SqlReply::Duplicate(repeated.key)),
     }
 }
 

@@ -133,12 +133,12 @@ Answers schemas given s a =
     (Does (target schemas s) (source s given) (placed_action (scope schemas s) s) a)
     (λ r. a ≡ refused (reply_of r))
 
--- an answer as an outcome: a key that is there already comes in place of the changes
+-- an answer as an outcome: the count of rows is not handed on
 abbrev pub outcome_of : Answer → Outcome
 outcome_of (rows rs) = outcome.Rows rs
 outcome_of (refused r) = outcome.Refused r
 outcome_of (wants cs n None) = outcome.Changes cs
-outcome_of (wants cs n (Some k)) = outcome.Refused (reply.Duplicate k)
+outcome_of (wants cs n (Some k)) = outcome.Duplicate (record { changes = cs; key = k })
 
 -- an outcome that comes from an answer of the kind that is asked
 pub record ComesFrom (Is : Answer → Type 0) (o : Outcome) : Type 0 where

@@ -20,8 +20,7 @@ use sql_statements::Stmt;
 use sql_values::{Rows, Schema, Schemas};
 use std::alloc::Global;
 
-/// What the statement answers over the rows of its ranges. Duplicate comes in place of changes where a key
-/// is there already; whether a key is in conflict is not asked here.
+/// What the statement answers over the rows of its ranges. Whether a key is in conflict is not asked here.
 pub fn eval(
     alloc: Global,
     statement: &Stmt,

@@ -15,5 +15,5 @@ mod writing;
 
 pub use evaluating::eval;
 pub use laws::{answer_laws, total_laws, whole_laws};
-pub use outcomes::Outcome;
+pub use outcomes::{Outcome, Repeated};
 pub use rows::{RangeRows, RowLists};

@@ -10,7 +10,7 @@ ghost use Rattle.sql_exec.specs.Totals as totals;
 use crate::changes::{place_row, remove_row};
 use crate::keeping::{all_values, kept};
 use crate::keys::repeat;
-use crate::outcomes::Outcome;
+use crate::outcomes::{Outcome, Repeated};
 use crate::totals::is_null;
 use rm_base::{Duplicate, WantOfMemory};
 use row_codec::TooLarge;
@@ -64,7 +64,7 @@ fn unless_repeated(
     let seen = all_keys(alloc, there, key)?;
     let keys = all_keys(alloc, rows, key)?;
     match repeat(alloc, seen, &keys)? {
-        Some(key) => Ok(Outcome::Refused(SqlReply::Duplicate(key))),
+        Some(key) => Ok(Outcome::Duplicate(Repeated { changes, key })),
         None => Ok(Outcome::Changes(changes)),
     }
 }

@@ -122,6 +122,7 @@ impl Plain {
             Outcome::Rows(rows) => Ok(SqlReply::Rows(rows)),
             Outcome::Refused(reply) => Ok(reply),
             Outcome::Changes(changes) => self.take(alloc, schema, &changes),
+            Outcome::Duplicate(repeated) => Ok(SqlReply::Duplicate(repeated.key)),
         }
     }
 
