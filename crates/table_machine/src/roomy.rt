@@ -1,4 +1,4 @@
-ghost use Rattle.std.specs.Prelude.{◌≡◌, ◌+◌, ◌-◌, ◌<◌, ◌≤◌, [], ◌∷◌, ◌++◌, length, OnOk, OnErr, option_to_list};
+ghost use Rattle.std.specs.Prelude.{◌≡◌, ◌+◌, ◌-◌, ◌<◌, ◌≤◌, [], ◌∷◌, ◌++◌, length, OnOk, OnErr, option_to_list, slice_set};
 
 use rm_base::WantOfMemory;
 use std::alloc::Global;
@@ -80,6 +80,16 @@ impl<T: Drop> Roomy<T> {
     {
         self.items.push(item)?;
         Ok(())
+    }
+
+    /// The item takes the place of the one there. Nothing happens where there is none.
+    pub fn set(&mut self, at: usize, item: T)
+        ensures items { self.new.items ≡ slice_set self.old.items at item }
+        ensures spare { self.old.spare ≤ self.new.spare }
+    {
+        if let Some(place) = self.items.get_mut(at) {
+            *place = item;
+        }
     }
 
     /// Takes no memory.

@@ -24,11 +24,12 @@ fn a_journal_takes_entries_into_its_spare_room(rt: HostRuntime) -> Result<(), Fa
     assert!(rt; journal.spare() >= 2);
     journal.push_spare(Entry::Settle);
     journal.push(Entry::Forget { kept: 7 })?;
+    journal.set(0, Entry::Exec { session });
     assert_eq!(rt; journal.len(), 3);
     assert!(rt;
         matches!(
             journal.as_slice(),
-            [Entry::Snap { .. }, Entry::Settle, Entry::Forget { kept: 7 }]
+            [Entry::Exec { .. }, Entry::Settle, Entry::Forget { kept: 7 }]
         )
     );
     machine_laws::<AllBegin>();
