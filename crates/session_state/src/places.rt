@@ -1,5 +1,6 @@
 ghost use Rattle.std.specs.Prelude.{◌≡◌, []};
 
+use crate::classes::StatementClass;
 use crate::queue::Queue;
 use rm_base::{Bytes, Items, NodeId, SessionId, SessionList, Stamp, TrxId};
 use std::alloc::Global;
@@ -18,6 +19,8 @@ pub enum Place {
 #[derive(Debug, Drop)]
 pub struct Asked {
     pub text: Bytes,
+    /// What sort of statement the text is.
+    pub class: StatementClass,
     /// Which of the session's statements it is, from 1.
     pub number: u32,
     /// Its place in the order of submission.
