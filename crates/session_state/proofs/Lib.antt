@@ -1,1 +1,6 @@
+pub mod Entries
+pub mod Falls
 pub mod Lists
+pub mod Moving
+pub mod Replies
+pub mod Stopped

@@ -1,2 +1,4 @@
+pub mod Laws
 pub mod Rows
+pub mod Telling
 pub mod Waiting

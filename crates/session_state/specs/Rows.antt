@@ -1,5 +1,5 @@
 -- Stated: what each thing that happens to a session makes of its row.
-use Rattle.std.specs.Prelude.{ℕ, ◌+◌, Bool, true, false, ◌&&◌, ◌||◌, if◌then◌else◌, List, [], ◌∷◌, ◌++◌, slice_get, slice_set, Option, Some, None}
+use Rattle.std.specs.Prelude.{ℕ, ◌+◌, Bool, true, false, ◌&&◌, ◌||◌, not, is_some, if◌then◌else◌, List, [], ◌∷◌, ◌++◌, slice_get, slice_set, Option, Some, None}
 use Rattle.std.specs.Option.{option_map_or}
 use Rattle.sql_statements.specs.declared.statements.Stmt.{Stmt}
 use Rattle.sql_statements.specs.declared.statements.Stmt.TheVariants as stmt
@@ -115,10 +115,7 @@ replied r row = after_reply (class_asked row) r row
 
 -- the statement is given up: a transaction that lasts stays where the statement changes nothing
 abbrev pub given_up : SessionRow → SessionRow
-given_up row = if row.lasting && not_changing (class_asked row) then lasts true row else without_transaction row
-  where
-    not_changing : StatementClass → Bool
-    not_changing class = if changes class then false else true
+given_up row = if row.lasting && not (changes (class_asked row)) then lasts true row else without_transaction row
 
 -- its node falls: a transaction that lasts is lost, and the session is to be told
 abbrev pub fallen : SessionRow → SessionRow
@@ -132,10 +129,10 @@ number_in Lost = None
 
 -- the row's session has a statement or a transaction
 abbrev pub is_busy : SessionRow → Bool
-is_busy row = is_active row.place || option_map_or (λ a. true) row.asked false
+is_busy row = is_some row.asked || is_active row.place
 
 abbrev pub is_asking : SessionRow → Bool
-is_asking row = option_map_or (λ a. true) row.asked false
+is_asking row = is_some row.asked
 
 -- one row is changed
 abbrev pub updated : List SessionRow → ℕ → (SessionRow → SessionRow) → List SessionRow

@@ -2,6 +2,7 @@
 #![tactic(auto)]
 
 mod classes;
+mod laws;
 mod places;
 mod queue;
 mod rows;
@@ -10,5 +11,6 @@ mod table;
 mod tests;
 
 pub use classes::{StatementClass, class_of};
+pub use laws::{reading_laws, telling_laws};
 pub use places::{Asked, Place, SessionRow, SessionRows, SessionTable};
 pub use queue::{Queue, Queued};

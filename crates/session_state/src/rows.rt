@@ -144,11 +144,7 @@ impl SessionRow {
     pub fn give_up(&mut self)
         ensures { self.new ≡ spec.given_up self.old }
     {
-        let changes = match self.class_asked() {
-            StatementClass::Writes | StatementClass::Ends => true,
-            StatementClass::Wrong | StatementClass::Reads | StatementClass::Begins => false,
-        };
-        if self.lasting && !changes {
+        if self.lasting && !changes(self.class_asked()) {
             self.last(true);
         } else {
             self.close();
@@ -172,7 +168,7 @@ impl SessionRow {
     pub fn is_busy(&self) -> bool
         ensures { result ≡ spec.is_busy self.now }
     {
-        self.place.is_active() || self.asked.is_some()
+        self.asked.is_some() || self.place.is_active()
     }
 
     /// Whether the session has a statement that is unanswered.
@@ -204,6 +200,16 @@ impl SessionRow {
     {
         self.lasting = lasting;
         self.asked = None;
+    }
+}
+
+/// Whether a statement of the class that is given up takes the transaction along.
+fn changes(class: StatementClass) -> bool
+    ensures { result ≡ spec.changes class }
+{
+    match class {
+        StatementClass::Writes | StatementClass::Ends => true,
+        StatementClass::Wrong | StatementClass::Reads | StatementClass::Begins => false,
     }
 }
 
