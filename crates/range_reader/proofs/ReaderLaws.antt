@@ -20,8 +20,8 @@ use Rattle.range_reader.specs.declared.versions.Stage.{Stage}
 use Rattle.range_reader.specs.declared.versions.Stage.TheVariants as stage
 use Rattle.range_reader.specs.declared.versions.Version.{Version}
 use Rattle.range_reader.specs.Walked.{walked}
-use Rattle.range_reader.specs.Finding.{Finding, Asked, Fits, look, look_at, walk, go_on, end_at, items_in, find, fetch_at, down_to, stamp_by, has_stamp, Suits, page_of}
-use Rattle.range_reader.specs.Machine.{version_at, version_of, version_fetch, fetch_at_stage, stamp_fetch, looked_of, is_kept, Keeps, with_look, finding_of, silent, silent_by, settled_by, is_settled, is_end, done_by, tree_fetch}
+use Rattle.range_reader.specs.Finding.{Finding, Asked, Fits, look, look_at, walk, go_on, end_at, items_in, find, fetch_at, down_to, stamp_by, stamp_fetch, has_stamp, Suits, page_of}
+use Rattle.range_reader.specs.Machine.{version_at, version_of, version_fetch, fetch_at_stage, looked_of, is_kept, Keeps, with_look, finding_of, silent, silent_by, settled_by, is_settled, is_end, done_by, tree_fetch}
 use Rattle.range_reader.proofs.VersionLaws.{version_on}
 
 -- the work by its parts

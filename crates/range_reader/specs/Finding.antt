@@ -76,6 +76,10 @@ judged k s item im = judged_by (visible (stamp_in im item.trx) s.stamp) k item
 abbrev pub has_stamp : ℕ → Bool
 has_stamp t = nat_le 1 t && nat_le t MAX_TRX_ID
 
+abbrev pub stamp_fetch : Bool → ℕ → Option Fetch
+stamp_fetch true page = Some (fetch.Stamps page)
+stamp_fetch false page = None
+
 abbrev pub stamp_by : Bool → (LeafItem → Finding) → Snapshot → LeafItem → Finding
 stamp_by true k s item = asks (fetch.Stamps (stamp_page item.trx)) (judged k s item)
 stamp_by false k s item = stops

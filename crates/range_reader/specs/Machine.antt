@@ -15,7 +15,7 @@ use Rattle.range_reader.specs.declared.versions.Stage.TheVariants as stage
 use Rattle.range_reader.specs.declared.versions.Version.{Version}
 use Rattle.range_reader.specs.declared.reader.RangeReader.{RangeReader}
 use Rattle.range_reader.specs.Uses.{live}
-use Rattle.range_reader.specs.Finding.{Finding, look, look_at, stamp_asked, has_stamp, back_to, walk, fetch_at}
+use Rattle.range_reader.specs.Finding.{Finding, look, look_at, stamp_asked, stamp_fetch, has_stamp, back_to, walk, fetch_at}
 use Rattle.undo_versions.specs.Walking.{replaced}
 
 -- ---- one version
@@ -28,10 +28,6 @@ version_at stage.Stopped s v = stops
 
 unfoldable pub version_of : Snapshot → Version → Finding
 version_of s v = version_at v.stage s v
-
-abbrev pub stamp_fetch : Bool → ℕ → Option Fetch
-stamp_fetch true page = Some (fetch.Stamps page)
-stamp_fetch false page = None
 
 abbrev pub fetch_at_stage : Stage → ℕ → Option Fetch
 fetch_at_stage stage.Stamp t = stamp_fetch (has_stamp t) (stamp_page t)

@@ -45,7 +45,7 @@ pub fn copy_of(alloc: Global, range: &KeyRange) -> Result<KeyRange, WantOfMemory
 
 /// The leaf item that the bytes spell.
 #[tactic(auto, using(crate::proofs::ItemLaws::read_is))]
-fn leaf_in(item: &[u8]) -> LeafRef<'_>
+pub fn leaf_in(item: &[u8]) -> LeafRef<'_>
     requires { HoldsLeaf item.now }
     ensures { result ≡ leaf_of item.now }
 {
@@ -84,9 +84,9 @@ pub(crate) fn push_items(
     }
 }
 
-/// The bytes at place i.
+/// The bytes of the item at place i.
 #[tactic(auto, using(crate::proofs::ItemLaws::holds_at))]
-fn item_at(page: &Page, i: usize) -> &[u8]
+pub fn item_at(page: &Page, i: usize) -> &[u8]
     requires each { AllByRecursion HoldsLeaf page.now.items }
     requires there { i < length page.now.items }
     ensures is { slice_get page.now.items i ≡ Some result.now }

@@ -11,7 +11,8 @@ mod tests;
 mod versions;
 
 pub use fetch::{Fetch, MOST_FETCHES, MOST_VERSIONS, Snapshot};
-pub use items::copy_of;
+pub use items::{copy_of, item_at, leaf_in};
 pub use laws::{found_law, order_law};
 pub use reader::RangeReader;
-pub use stepping::step;
+pub use stepping::{child_of, step};
+pub use versions::{is_own, is_seen, stamp_fetch};

@@ -45,7 +45,8 @@ pub(crate) enum Looked {
     Asking(Version),
 }
 
-fn is_own(own: Option<TrxId>, t: TrxId) -> bool
+/// Whether a version of that transaction is the reader's own.
+pub fn is_own(own: Option<TrxId>, t: TrxId) -> bool
     ensures { result ≡ seeing.is_own own t }
 {
     match own {
@@ -69,9 +70,10 @@ fn page_of_stamp(t: TrxId) -> PageId
     PageId::new(stamp_page(t) as u32).unwrap()
 }
 
+/// The page of a transaction's stamp, which is wanted. None where there can be none.
 #[tactic(auto, using(crate::proofs::VersionLaws::stamp_some, crate::proofs::VersionLaws::stamp_most))]
-fn stamp_fetch(t: TrxId) -> Option<Fetch>
-    ensures { result ≡ machine.stamp_fetch (finding.has_stamp t) (stamping.stamp_page t) }
+pub fn stamp_fetch(t: TrxId) -> Option<Fetch>
+    ensures { result ≡ finding.stamp_fetch (finding.has_stamp t) (stamping.stamp_page t) }
 {
     if !has_stamp(t) {
         return None;
@@ -101,7 +103,7 @@ fn page_before(at: UndoPtr) -> Option<PageId>
 
 /// Whether the stamp that the page has for the transaction is seen.
 #[tactic(auto, using(crate::proofs::VersionLaws::stamp_there))]
-fn is_seen(snap: Stamp, page: &Page, t: TrxId) -> bool
+pub fn is_seen(snap: Stamp, page: &Page, t: TrxId) -> bool
     requires kind { page.now.kind ≡ kind.Stamps }
     requires number { page.now.page ≡ stamping.stamp_page t }
     requires some { finding.has_stamp t ≡ true }
