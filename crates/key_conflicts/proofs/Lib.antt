@@ -1,0 +1,5 @@
+pub mod AskingLaws
+pub mod ItemLaws
+pub mod JudgedLaws
+pub mod OrderLaws
+pub mod StageLaws
