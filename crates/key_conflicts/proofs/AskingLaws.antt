@@ -1,10 +1,9 @@
 -- What a test of keys does to the work that is left to it.
-use Rattle.std.proofs.Common.{◌≡◌, ◌≢◌, ◌<◌, ◌≤◌, ◌+◌, ℕ, zero, suc, Bool, true, false, List, [], ◌∷◌, length, drop, slice_get, IsTrue, ◌↔◌, Option, Some, None, refl, sym, ◌∙◌, ap, subst, arith}
+use Rattle.std.proofs.Common.{◌≡◌, ◌<◌, ◌≤◌, ◌+◌, ℕ, zero, suc, Bool, true, false, List, [], ◌∷◌, length, drop, slice_get, IsTrue, ◌↔◌, Option, Some, None, refl, sym, ◌∙◌, ap, subst, arith}
 use Rattle.page_image.specs.Image.{Image}
 use Rattle.commit_stamps.specs.Stamping.{stamp_page}
-use Rattle.question_tree.specs.Questions.{Ask, tells, asks, stops, wanted, told, after, then_on}
+use Rattle.question_tree.specs.Questions.{tells, asks, stops, wanted, told, after, then_on}
 use Rattle.range_reader.specs.declared.fetch.Fetch.{Fetch}
-use Rattle.range_reader.specs.declared.fetch.Fetch.TheVariants as fetch
 use Rattle.range_reader.specs.declared.fetch.Snapshot.{Snapshot}
 use Rattle.range_reader.specs.Finding.{Asked, Fits, Suits, page_of, has_stamp, stamp_fetch}
 use Rattle.key_conflicts.specs.declared.asking.AskingTest.{AskingTest}
@@ -14,7 +13,7 @@ use Rattle.key_conflicts.specs.declared.stages.Step.{Step}
 use Rattle.key_conflicts.specs.declared.stages.Step.TheVariants as step
 use Rattle.key_conflicts.specs.declared.verdict.Met.{Met}
 use Rattle.key_conflicts.specs.declared.verdict.Tested.{Tested}
-use Rattle.key_conflicts.specs.Testing.{Key, Asking, down, look_in, stamp_by, test_key, test_from, test_keys, with_key, nothing_known}
+use Rattle.key_conflicts.specs.Testing.{Key, Asking, stamp_by, test_from, test_keys, with_key, nothing_known}
 use Rattle.key_conflicts.specs.Machine.{key_left, step_left, fetch_of, with_keys, work_of, stepped}
 
 -- ---- the keys that are left

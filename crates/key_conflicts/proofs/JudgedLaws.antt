@@ -1,6 +1,5 @@
 -- A test tells of its keys what their newest versions are over its uses.
-use Rattle.std.proofs.Common.{◌≡◌, ◌≢◌, ◌&&◌, ℕ, zero, suc, Bool, true, false, not, is_none, if◌then◌else◌, List, [], ◌∷◌, ◌++◌, slice_get, Contains, Option, Some, None, ◌⊎◌, inl, inr, refl, sym, ◌∙◌, ap, subst, append_assoc, append-nil}
-use Rattle.std.specs.List.{AllByRecursion}
+use Rattle.std.proofs.Common.{◌≡◌, ◌≢◌, ◌&&◌, ℕ, zero, suc, Bool, true, false, not, is_none, if◌then◌else◌, List, [], ◌∷◌, ◌++◌, slice_get, Option, Some, None, inl, inr, refl, sym, ◌∙◌, ap, subst, append_assoc, append-nil}
 use Rattle.std.specs.declared.cmp.Ordering.{Ordering}
 use Rattle.std.specs.declared.cmp.Ordering.TheVariants.{Less, Equal, Greater}
 use Rattle.std.specs.Ordering.{is_lt, ordering_reverse}
@@ -20,13 +19,12 @@ use Rattle.question_tree.proofs.QuestionLaws.{split}
 use Rattle.range_reader.specs.declared.fetch.Fetch.TheVariants as fetch
 use Rattle.range_reader.specs.declared.fetch.Snapshot.{Snapshot}
 use Rattle.range_reader.specs.Finding.{Fits, has_stamp}
-use Rattle.range_reader.specs.Uses.{LooksUp}
 use Rattle.range_reader.specs.Walked.{child_in}
 use Rattle.range_reader.proofs.VersionLaws.{stamp_some}
 use Rattle.key_conflicts.specs.declared.verdict.Met.{Met}
 use Rattle.key_conflicts.specs.declared.verdict.Tested.{Tested}
-use Rattle.key_conflicts.specs.Testing.{Key, Asking, down, down_by, item_of, met, stamp_by, look_by, look_at, look_in, to_leaf, test_key, test_from, test_keys, put_by, precedes, with_key, nothing_known}
-use Rattle.key_conflicts.specs.Judged.{LeadsDown, Meets, KeyTested, EachTested, those, clashing, standing, IsLeastOf, IsJudged, TellsJudged}
+use Rattle.key_conflicts.specs.Testing.{Key, Asking, down, down_by, item_of, stamp_by, look_by, look_at, look_in, test_key, test_from, test_keys, put_by, precedes, with_key, nothing_known}
+use Rattle.key_conflicts.specs.Judged.{LeadsDown, Meets, KeyTested, EachTested, clashing, standing, IsLeastOf, TellsJudged}
 use Rattle.key_conflicts.proofs.StageLaws.{is_leaf}
 
 -- ---- the way down
@@ -92,8 +90,7 @@ looked s item [] m true e o h = absurd h
 looked s item (u ∷ (v ∷ us)) m true e o h = absurd h.1
 looked s item (u ∷ []) m true e o h =
     let seen : Bool = visible (stamp_in u item.trx) s.stamp in
-    let clash : not seen ≡ m.clash = ap (λ (x : Met). x.clash) h.1 in
-    (
+    let clash : not seen ≡ m.clash = ap (λ (x : Met). x.clash) h.1 in (
       refl,
       record {
         other = o;
@@ -126,8 +123,8 @@ key_tested s root key (x ∷ xs) m h =
       leaf = r.0;
       stamps = r.2;
       used =
-        ap (λ (ys : List Image). x ∷ ys) r.3
-        ∙ (ap (λ (ys : List Image). ys ++ r.2) d.used ∙ append_assoc d.way (r.0 ∷ []) r.2);
+          ap (λ (ys : List Image). x ∷ ys) r.3
+          ∙ (ap (λ (ys : List Image). ys ++ r.2) d.used ∙ append_assoc d.way (r.0 ∷ []) r.2);
       leads = d.leads;
       meets = meets s (item_of key r.0.items) r.2 m r.5;
     }
@@ -158,13 +155,12 @@ one_more before key (Some other) h = go (is_lt (key_cmp key other)) refl
   where
     go : (b : Bool) → is_lt (key_cmp key other) ≡ b → IsLeastOf (before ++ key ∷ []) (put_by b key (Some other))
     go true e =
-        let less : key_cmp key other ≡ Less = less_at (key_cmp key other) e in
-        (
+        let less : key_cmp key other ≡ Less = less_at (key_cmp key other) e in (
           Contains-push before key,
           all_join (λ x. key_cmp key x ≢ Greater) before (key ∷ [])
-          (all_map (λ x. key_cmp other x ≢ Greater) (λ x. key_cmp key x ≢ Greater) before
-          (λ x n. not_greater key x (less_upto key other x less n)) h.1)
-          (itself key, tt),
+              (all_map (λ x. key_cmp other x ≢ Greater) (λ x. key_cmp key x ≢ Greater) before
+              (λ x n. not_greater key x (less_upto key other x less n)) h.1)
+              (itself key, tt),
         )
     go false e = (
       Contains-append_left before (key ∷ []) other h.0,

@@ -13,7 +13,7 @@ use Rattle.range_reader.specs.Laws.{IsOrderly}
 use Rattle.range_reader.specs.Walked.{child_in}
 use Rattle.range_reader.proofs.OrderLaws.{orderly_on}
 use Rattle.key_conflicts.specs.declared.verdict.Tested.{Tested}
-use Rattle.key_conflicts.specs.Testing.{Key, Asking, down, down_by, stamp_by, look_by, look_at, look_in, to_leaf, test_key, test_from, test_keys, with_key, nothing_known}
+use Rattle.key_conflicts.specs.Testing.{Key, Asking, down, down_by, stamp_by, look_by, look_at, look_in, test_key, test_from, test_keys, with_key, nothing_known}
 use Rattle.key_conflicts.specs.Judged.{TestsOrderly}
 
 by_kind : (k : Kind) (im : Image) (below : Asking Image) → IsOrderly true below → IsOrderly true (down_by k im below)

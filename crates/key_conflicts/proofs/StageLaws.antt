@@ -1,5 +1,5 @@
 -- What the test of a key does to the work that is left to it.
-use Rattle.std.proofs.Common.{◌≡◌, ◌≢◌, ◌-◌, ◌&&◌, ℕ, zero, suc, Bool, true, false, not, is_none, Option, Some, None, ◌⊎◌, inl, inr, refl, sym, ◌∙◌, ap, subst, arith}
+use Rattle.std.proofs.Common.{◌≡◌, ◌≢◌, ◌-◌, ◌&&◌, ℕ, zero, suc, Bool, true, false, not, is_none, Option, Some, None, inl, inr, refl, sym, ◌∙◌, ap, subst, arith}
 use Rattle.rm_base.specs.declared.limits.TheConstants.{MAX_TREE_LEVEL}
 use Rattle.page_image.specs.Image.{Image}
 use Rattle.page_image.specs.declared.kind.Kind.{Kind}

@@ -1,5 +1,5 @@
 -- For the proofs: the work that is left to a test.
-use Rattle.std.specs.Prelude.{ℕ, Bool, List, [], ◌∷◌, drop, Option, Some, None}
+use Rattle.std.specs.Prelude.{ℕ, List, [], ◌∷◌, drop, Option, Some, None}
 use Rattle.commit_stamps.specs.Stamping.{stamp_page}
 use Rattle.question_tree.specs.Questions.{tells, asks, stops, then_on}
 use Rattle.range_reader.specs.declared.fetch.Fetch.{Fetch}

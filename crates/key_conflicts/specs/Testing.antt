@@ -60,7 +60,8 @@ met clash there = record { clash = clash; there = there }
 -- the snapshot does not see its stamp. A number that no transaction can have stops the work.
 abbrev pub stamp_by : Bool → Snapshot → ℕ → Bool → Asking Met
 stamp_by true s trx there =
-    asks (fetch.Stamps (stamp_page trx)) (λ im. tells (met (not (visible (stamp_in im trx) s.stamp)) there))
+    asks (fetch.Stamps (stamp_page trx))
+    (λ im. tells (met (not (visible (stamp_in im trx) s.stamp)) there))
 stamp_by false s trx there = stops
 
 -- an own version is not in the way, and no page is asked for

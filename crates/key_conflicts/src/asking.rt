@@ -120,7 +120,10 @@ impl AskingTest {
         ensures { result ≡ told (work_of self) }
     {
         let AskingTest {
-            keys, at, tested, ..
+            keys,
+            at,
+            tested,
+            ..
         } = self;
         if at < keys.len() {
             return None;

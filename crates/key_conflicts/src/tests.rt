@@ -79,7 +79,12 @@ fn tree(alloc: Global) -> Result<Items<Page>, WantOfMemory> {
     )?;
     add(
         &mut pages,
-        page_with(alloc, 10, Kind::Leaf, &[&version(1, 1, 0), &version(2, 9, 0)])?,
+        page_with(
+            alloc,
+            10,
+            Kind::Leaf,
+            &[&version(1, 1, 0), &version(2, 9, 0)],
+        )?,
     )?;
     add(
         &mut pages,
@@ -153,12 +158,8 @@ fn test_of(alloc: Global, bytes: &[u8]) -> Result<AskingTest, WantOfMemory> {
 /// The byte of the key that is in the way, and that of the one that is there.
 fn told_by(test: AskingTest) -> Option<(Option<u8>, Option<u8>)> {
     let tested = test.into_answer()?;
-    let clash = tested
-        .clash
-        .and_then(|key| key.as_slice().first().copied());
-    let found = tested
-        .found
-        .and_then(|key| key.as_slice().first().copied());
+    let clash = tested.clash.and_then(|key| key.as_slice().first().copied());
+    let found = tested.found.and_then(|key| key.as_slice().first().copied());
     Some((clash, found))
 }
 
