@@ -89,8 +89,8 @@ module _ (language : Language) (names : KeepsCatalogName language) (respects : A
   )
   entries_lead (judges s) c d h g = ap (λ x. x.machine) h
   entries_lead (begins s) c d h g = ap (λ x. x.machine) h.4
-  entries_lead (writes s) c d h g = ap (λ x. x.machine) h.6.2
-  entries_lead (creates s) c d h g = ap (λ x. x.machine) h.6
+  entries_lead (writes s p) c d h g = ap (λ x. x.machine) h.7.2
+  entries_lead (creates s p) c d h g = ap (λ x. x.machine) h.7
   entries_lead (splits s p) c d h g = ap (λ x. x.machine) h.3
   entries_lead (commits s) c d h g = (enqueued c.machine s, (h.1.free, h.1.may, refl), ap (λ x. x.machine) h.2)
   entries_lead (appends e) c d h g = ap (λ x. x.machine) h.2
@@ -141,10 +141,11 @@ module _ (language : Language) (names : KeepsCatalogName language) (respects : A
       (proper c s h.0 h.1 h.2 g x) x.answers g h.4 x.has f2 e x.runs)
   keeps (judges s) c d h g f = subst (λ x. Refines language was x) (sym h) (keep_verdict was c s g)
   keeps (begins s) c d h g f = subst (λ x. Refines language was x) (sym h.4) (keep_begin was c s g h.0 h.1 h.2)
-  keeps (writes s) c d h g f =
-      subst (λ x. Refines language was x) (sym h.6.2) (keep_change was c s h.1 h.6.0 h.0 h.2 h.3 g h.4 h.5 h.6.1)
-  keeps (creates s) c d h g f =
-      subst (λ x. Refines language was x) (sym h.6) (keep_create was c s h.1 h.0 h.2 h.3 g h.4 h.5)
+  keeps (writes s p) c d h g f =
+      subst (λ x. Refines language was x) (sym h.7.2)
+      (keep_change was c s h.1 h.7.0 p h.0 h.2 h.3 g h.4 h.5 h.6 h.7.1)
+  keeps (creates s p) c d h g f =
+      subst (λ x. Refines language was x) (sym h.7) (keep_create was c s h.1 p h.0 h.2 h.3 g h.4 h.5 h.6)
   keeps (splits s p) c d h g f = subst (λ x. Refines language was x) (sym h.3) (keep_split was c s p g h.0 h.2)
   keeps (commits s) c d h g f =
       subst (λ x. Refines language was x) (sym h.2)

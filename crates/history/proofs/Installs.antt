@@ -1,12 +1,12 @@
 -- A version more.
-use Rattle.std.proofs.Common.{◌≡◌, ℕ, ◌≢◌, Bool, true, false, Option, Some, None, List, [], ◌∷◌, ◌++◌, if◌then◌else◌, arith, inl, inr, refl, sym, subst, ap, ◌∙◌}
+use Rattle.std.proofs.Common.{◌≡◌, ℕ, ◌≢◌, ◌≤◌, Bool, true, false, Option, Some, None, List, [], ◌∷◌, ◌++◌, if◌then◌else◌, arith, inl, inr, refl, sym, subst, ap, ◌∙◌}
 use Rattle.std.specs.Str.{bytes_eq}
 use Rattle.history.proofs.FittingLaws.{fits_free, fits_split}
 use Rattle.history.proofs.Frames.{each_beside, good_grow}
 use Rattle.history.proofs.OwnLaws.{own_top, own_under}
 use Rattle.history.proofs.PlaceLaws.{not_said, said_left, said_right, says_append}
 use Rattle.history.proofs.SessionLaws.{pending_some}
-use Rattle.history.proofs.SoundLaws.{sound_changed, sound_created}
+use Rattle.history.proofs.SoundLaws.{sound_changed, sound_created, sound_split}
 use Rattle.history.proofs.Views.{all_installed, now_sound, seen_is_root, seen_open}
 use Rattle.history.specs.Clusters.{now, own_of, own, grown, Work, Cluster}
 use Rattle.history.specs.Events.{MayInstall}
@@ -24,9 +24,9 @@ use Rattle.version_store.proofs.Places.{bytes_of, bytes_same, bytes_self, put_al
 use Rattle.version_store.proofs.RootedLaws.{created_there}
 use Rattle.version_store.proofs.Versions.{none_of_pop}
 use Rattle.version_store.specs.Contents.{Content, catalog_name, root_of, chain_of}
-use Rattle.version_store.specs.Groups.{IsPopped}
+use Rattle.version_store.specs.Groups.{IsPopped, Writes}
 use Rattle.version_store.specs.Held.{none_of, IsLedBy, IsToppedBy}
-use Rattle.version_store.specs.Stores.{catalog, changed, created, Store}
+use Rattle.version_store.specs.Stores.{catalog, changed, created, split, Store}
 use Rattle.version_store.specs.Versions.{Row, seen_root, Version}
 
 pub own_pops : (t v : ℕ) (c : Option (Option Row)) (new old : List Version) → (v ≡ t → ⊥) → IsPopped t new old
@@ -183,31 +183,21 @@ next_fits {language} was c s n t h hs g ch = fits_split (c.work s).installed (co
 own_is : (c : Cluster) (s n : ℕ) → (c.work s).ending ≡ false → (now c).slot s ≡ Some n → own c s ≡ Some n
 own_is c s n e q = ap (λ b. own_of b ((now c).slot s)) e ∙ q
 
-pub keep_change : {language : Language}
+-- a row that is next to be installed may be written: by its number, at the root of its table
+pub may_write : {language : Language}
     → (was : Content) (c : Cluster) (s n r : ℕ) (t : Transaction) (h : Change) (hs : List Change)
     → Refines language was c → MayInstall c s t n h hs → bytes_eq h.table catalog_name ≡ false
     → seen_root ((now c).rows catalog h.table) (now c).stamp t.snap (own c s) ≡ Some r
-    → Refines language was
-    (grown c (changed (now c) s n r h.key h.row) s
-    (record (c.work s) { todo = hs; installed = (c.work s).installed ++ h ∷ [] }) c.machine)
-keep_change {language} was c s n r t h hs g ch nw sr =
-    keep_add was c s n t h hs (record { trx = n; row = h.row; root = 0 }) (changed (now c) s n r h.key h.row) g ch
-    (sound_changed (line was c) (now c) s n r h.table h.key h.row (now_sound was c g) ch.slot ra nw
-    (seen_open (now c) t.snap n h.table r (now_sound was c g).rooted
-    (subst (λ o. seen_root ((now c).rows catalog h.table) (now c).stamp t.snap o ≡ Some r)
-    (own_is c s n ch.stays ch.slot) sr))
-    (λ u v ne sl. subst (λ vs. none_of v vs ≡ true) (chain_some (now c) h.table h.key r nw ra)
-    (g.clear s u v h.table h.key ne sl said)))
-    refl refl refl
-    (record {
-      here = chain_changed_here (now c) s n r h.table h.key h.row (now_sound was c g).rooted ra nw;
-      there = chain_changed_there (now c) s n r h.table h.key h.row (now_sound was c g).rooted ra;
-    }) refl refl
-    (λ a p. changed_catalog (now c) s n r h.table h.key h.row (now_sound was c g).rooted ra a
-    ∙ (g.each s).names a
-    (subst (λ cs. is_said (says cs catalog_name a) ≡ true) (sym ch.todo)
-    (said_left (says hs catalog_name a) (if is_at h catalog_name a then Some h.row else None) p)))
-    (λ a v e o. changed_catalog (now c) s n r h.table h.key h.row (now_sound was c g).rooted ra a ∙ e)
+    → Writes (now c) s n r h.table h.key
+may_write {language} was c s n r t h hs g ch nw sr = record {
+  slot = ch.slot;
+  root = ra;
+  sees = seen_open (now c) t.snap n h.table r (now_sound was c g).rooted
+      (subst (λ o. seen_root ((now c).rows catalog h.table) (now c).stamp t.snap o ≡ Some r)
+      (own_is c s n ch.stays ch.slot) sr);
+  alone = λ u v ne sl. subst (λ vs. none_of v vs ≡ true) (chain_some (now c) h.table h.key r nw ra)
+      (g.clear s u v h.table h.key ne sl said);
+}
   where
     ra : root_of (now c) h.table ≡ Some r
     ra = seen_is_root (now c) t.snap (own c s) h.table r (now_sound was c g).rooted sr
@@ -217,32 +207,84 @@ keep_change {language} was c s n r t h hs g ch nw sr =
         (said_right (says hs h.table h.key) (if is_at h h.table h.key then Some h.row else None)
         (let p = bytes_self h.table in let q = bytes_self h.key in grind arith))
 
-pub keep_create : {language : Language}
-    → (was : Content) (c : Cluster) (s n : ℕ) (t : Transaction) (h : Change) (hs : List Change)
-    → Refines language was c → MayInstall c s t n h hs → bytes_eq h.table catalog_name ≡ true
+pub keep_change : {language : Language}
+    → (was : Content) (c : Cluster) (s n r p : ℕ) (t : Transaction) (h : Change) (hs : List Change)
+    → Refines language was c → MayInstall c s t n h hs → bytes_eq h.table catalog_name ≡ false → (now c).pages ≤ p
+    → seen_root ((now c).rows catalog h.table) (now c).stamp t.snap (own c s) ≡ Some r
     → Refines language was
-    (grown c (created (now c) s n h.key h.row) s
+    (grown c (changed (split (now c) p) s n r h.key h.row) s
     (record (c.work s) { todo = hs; installed = (c.work s).installed ++ h ∷ [] }) c.machine)
-keep_create {language} was c s n t h hs g ch w =
-    keep_add was c s n t h hs (record { trx = n; row = h.row; root = (now c).pages })
-    (created (now c) s n h.key h.row) g ch
-    (sound_created (line was c) (now c) s n h.key h.row m.0 (now_sound was c g) ch.slot em m.1) refl refl refl
+keep_change {language} was c s n r p t h hs g ch nw le sr =
+    keep_add was c s n t h hs (record { trx = n; row = h.row; root = 0 })
+    (changed (split (now c) p) s n r h.key h.row) g ch
+    (sound_changed (line was c) (split (now c) p) s n r h.table h.key h.row after_made ch.slot w.root nw
+    w.sees w.alone)
+    refl refl refl
     (record {
-      here = subst (λ z. chain_of
-          (created (now c) s n h.key h.row) z h.key ≡ record {
-            trx = n;
-            row = h.row;
-            root = (now c).pages;
-          } ∷ chain_of (now c) z h.key) (sym tw)
-          (chain_created_here (now c) s n h.key h.row (now_sound was c g).rooted em);
-      there = λ b j ne. chain_created_there (now c) s n h.key h.row (now_sound was c g).rooted em b j
-          (λ p q. ne (p ∙ sym tw) q);
+      here = chain_changed_here (split (now c) p) s n r h.table h.key h.row after_made.rooted w.root nw;
+      there = chain_changed_there (split (now c) p) s n r h.table h.key h.row after_made.rooted w.root;
     }) refl refl
-    (λ a p. created_there (now c) s n h.key a h.row (λ e. other a p e)
+    (λ a y. changed_catalog (split (now c) p) s n r h.table h.key h.row after_made.rooted w.root a
     ∙ (g.each s).names a
     (subst (λ cs. is_said (says cs catalog_name a) ≡ true) (sym ch.todo)
-    (said_left (says hs catalog_name a) (if is_at h catalog_name a then Some h.row else None) p)))
-    (λ a v e o. created_there (now c) s n h.key a h.row
+    (said_left (says hs catalog_name a) (if is_at h catalog_name a then Some h.row else None) y)))
+    (λ a v e o. changed_catalog (split (now c) p) s n r h.table h.key h.row after_made.rooted w.root a ∙ e)
+  where
+    w : Writes (now c) s n r h.table h.key
+    w = may_write was c s n r t h hs g ch nw sr
+
+    after_made : Sound (line was c) (split (now c) p)
+    after_made = sound_split (line was c) (now c) p (now_sound was c g) le
+
+-- a name that is next to be installed has a row, and no version yet
+pub may_create : {language : Language}
+    → (was : Content) (c : Cluster) (s n : ℕ) (t : Transaction) (h : Change) (hs : List Change)
+    → Refines language was c → MayInstall c s t n h hs → bytes_eq h.table catalog_name ≡ true
+    → ((row : Row) × (h.row ≡ Some row)) × ((now c).rows catalog h.key ≡ [])
+may_create {language} was c s n t h hs g ch w = ((m.0, m.1), em)
+  where
+    fits : (f : Content) × Fits f h × FitsAll (after f h) hs
+    fits = next_fits was c s n t h hs g ch
+
+    m : (row : Row) × (h.row ≡ Some row) × ((schema_of row).table ≡ h.key) × (fits.0 catalog_name h.key ≡ None)
+        × (bytes_eq h.key catalog_name ≡ false)
+    m = fits.1.makes w
+
+    tw : h.table ≡ catalog_name
+    tw = bytes_same h.table catalog_name w
+
+    em : (now c).rows catalog h.key ≡ []
+    em = (g.each s).names h.key
+        (subst (λ cs. is_said (says cs catalog_name h.key) ≡ true) (sym ch.todo)
+        (said_right (says hs catalog_name h.key) (if is_at h catalog_name h.key then Some h.row else None)
+        (let q = bytes_self h.key in grind arith)))
+
+pub keep_create : {language : Language}
+    → (was : Content) (c : Cluster) (s n p : ℕ) (t : Transaction) (h : Change) (hs : List Change)
+    → Refines language was c → MayInstall c s t n h hs → bytes_eq h.table catalog_name ≡ true → (now c).pages ≤ p
+    → Refines language was
+    (grown c (created (split (now c) p) s n h.key h.row) s
+    (record (c.work s) { todo = hs; installed = (c.work s).installed ++ h ∷ [] }) c.machine)
+keep_create {language} was c s n p t h hs g ch w le =
+    keep_add was c s n t h hs (record { trx = n; row = h.row; root = p })
+    (created (split (now c) p) s n h.key h.row) g ch
+    (sound_created (line was c) (split (now c) p) s n h.key h.row m.0 after_made ch.slot em m.1) refl refl refl
+    (record {
+      here = subst (λ z. chain_of
+          (created (split (now c) p) s n h.key h.row) z h.key ≡ record {
+            trx = n;
+            row = h.row;
+            root = p;
+          } ∷ chain_of (now c) z h.key) (sym tw)
+          (chain_created_here (split (now c) p) s n h.key h.row after_made.rooted em);
+      there = λ b j ne. chain_created_there (split (now c) p) s n h.key h.row after_made.rooted em b j
+          (λ x y. ne (x ∙ sym tw) y);
+    }) refl refl
+    (λ a y. created_there (split (now c) p) s n h.key a h.row (λ e. other a y e)
+    ∙ (g.each s).names a
+    (subst (λ cs. is_said (says cs catalog_name a) ≡ true) (sym ch.todo)
+    (said_left (says hs catalog_name a) (if is_at h catalog_name a then Some h.row else None) y)))
+    (λ a v e o. created_there (split (now c) p) s n h.key a h.row
     (λ q. let z : [] ≡ v ∷ [] = sym em ∙ ap ((now c).rows catalog) (sym q) ∙ e in grind arith) ∙ e)
   where
     tw : h.table ≡ catalog_name
@@ -261,8 +303,11 @@ keep_create {language} was c s n t h hs g ch w =
         (said_right (says hs catalog_name h.key) (if is_at h catalog_name h.key then Some h.row else None)
         (let q = bytes_self h.key in grind arith)))
 
+    after_made : Sound (line was c) (split (now c) p)
+    after_made = sound_split (line was c) (now c) p (now_sound was c g) le
+
     other : (a : List ℕ) → is_said (says hs catalog_name a) ≡ true → a ≡ h.key → ⊥
-    other a p e =
+    other a x e =
         let z : after fits.0 h catalog_name a ≡ Some m.0 =
         (let q = bytes_of h.key a (sym e) in let y = m.1 in grind arith) in
         let free = fits_free hs (after fits.0 h) a m.0 fits.2 z in grind arith

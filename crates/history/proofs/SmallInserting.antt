@@ -5,7 +5,7 @@ use Rattle.table_machine.specs.declared.entries.Entry.{Entry}
 use Rattle.table_machine.specs.Machine.{Machine, Transaction, after_commits, view}
 use Rattle.table_machine.specs.Moves.{enqueued, snapped, submitted}
 use Rattle.version_store.specs.Contents.{catalog_name}
-use Rattle.version_store.specs.Stores.{Store, begun, changed, put, stamped}
+use Rattle.version_store.specs.Stores.{Store, begun, changed, put, split, stamped}
 use Rattle.history.specs.Clusters.{Cluster, Work, ended, grown, now, reads}
 use Rattle.history.specs.Databases.{StandsFor}
 use Rattle.history.specs.Events.{AllHappen, Event, Happens, appends, begins, commits, creates, installs, judges, settle, table, taken_up, takes_up, verdict, writes}
@@ -78,7 +78,7 @@ does15 = (
 abbrev pub events2 : List Event
 events2 = takes_up 0 ∷
     (judges 0 ∷ (begins 0 ∷
-    (creates 0 ∷ (commits 0 ∷
+    (creates 0 1028 ∷ (commits 0 ∷
     (appends 3 ∷ (settle ∷
     (table (entry.Reply 0 (reply.Ok 0)) ∷
     (table (entry.Submit 1 (codes "insert b")) ∷ (table (entry.Snap 1) ∷ [])))))))))
@@ -213,7 +213,7 @@ pub does18 : Happens small (begins 1) c17 c18
 does18 = ((rested c17 refl refl refl past17), refl, refl, refl, refl)
 
 abbrev pub c19 : Cluster
-c19 = grown c18 (changed (now c18) 1 2 1028 (Change.key put_b) (Change.row put_b)) 1
+c19 = grown c18 (changed (split (now c18) 1030) 1 2 1028 (Change.key put_b) (Change.row put_b)) 1
     (installs (c18.work 1) put_b []) c18.machine
 
 pub past19 : (u : ℕ) → 3 ≤ u → c19.work u ≡ ended
@@ -222,7 +222,7 @@ past19 = past_put c18.work 1 _ ended (omega arith) past18
 pub slots19 : (u : ℕ) → 3 ≤ u → (now c19).slot u ≡ None
 slots19 = slots18
 
-pub does19 : Happens small (writes 1) c18 c19
+pub does19 : Happens small (writes 1 1030) c18 c19
 unfolding catalog_name
 does19 = (
   t2x,
@@ -240,6 +240,7 @@ does19 = (
     todo = refl;
   },
   refl,
+  (let z : (now c18).pages ≤ 1030 = omega arith in z),
   (1028, refl, refl),
 )
 
@@ -299,7 +300,7 @@ does21 = (
 -- the events from 16 to 21
 abbrev pub events3 : List Event
 events3 = takes_up 1 ∷
-    (judges 1 ∷ (begins 1 ∷ (writes 1 ∷ (table (entry.Submit 0 (codes "insert a")) ∷ (table (entry.Snap 0) ∷ [])))))
+    (judges 1 ∷ (begins 1 ∷ (writes 1 1030 ∷ (table (entry.Submit 0 (codes "insert a")) ∷ (table (entry.Snap 0) ∷ [])))))
 
 pub part3 : (journal : List Entry) × AllHappen small c15 events3 journal c21
 part3 = (
@@ -401,7 +402,7 @@ pub does24 : Happens small (begins 0) c23 c24
 does24 = ((rested c23 refl refl refl past23), refl, refl, refl, refl)
 
 abbrev pub c25 : Cluster
-c25 = grown c24 (changed (now c24) 0 3 1028 (Change.key put_a) (Change.row put_a)) 0
+c25 = grown c24 (changed (split (now c24) 1030) 0 3 1028 (Change.key put_a) (Change.row put_a)) 0
     (installs (c24.work 0) put_a []) c24.machine
 
 pub past25 : (u : ℕ) → 3 ≤ u → c25.work u ≡ ended
@@ -410,7 +411,7 @@ past25 = past_put c24.work 0 _ ended (omega arith) past24
 pub slots25 : (u : ℕ) → 3 ≤ u → (now c25).slot u ≡ None
 slots25 = slots24
 
-pub does25 : Happens small (writes 0) c24 c25
+pub does25 : Happens small (writes 0 1030) c24 c25
 unfolding catalog_name
 does25 = (
   t3x,
@@ -428,6 +429,7 @@ does25 = (
     todo = refl;
   },
   refl,
+  (let z : (now c24).pages ≤ 1030 = omega arith in z),
   (1028, refl, refl),
 )
 

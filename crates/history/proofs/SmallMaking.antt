@@ -7,7 +7,7 @@ use Rattle.table_machine.specs.Machine.{Machine, Transaction, after_commits, vie
 use Rattle.table_machine.specs.Moves.{answered, enqueued, joined, settles, snapped, submitted}
 use Rattle.table_machine.specs.Replies.{done}
 use Rattle.version_store.specs.Contents.{catalog_name}
-use Rattle.version_store.specs.Stores.{Store, begun, blank, created, put, stamped}
+use Rattle.version_store.specs.Stores.{Store, begun, blank, created, put, split, stamped}
 use Rattle.history.specs.Clusters.{Cluster, Work, ended, grown, now, reads, start}
 use Rattle.history.specs.Databases.{StandsFor}
 use Rattle.history.specs.Events.{AllHappen, Event, Happens, appends, begins, commits, creates, installs, judges, settle, table, taken_up, takes_up, verdict}
@@ -245,7 +245,7 @@ pub does8 : Happens small (begins 0) c7 c8
 does8 = ((rested c7 refl refl refl past7), refl, refl, refl, refl)
 
 abbrev pub c9 : Cluster
-c9 = grown c8 (created (now c8) 0 1 (Change.key made) (Change.row made)) 0 (installs (c8.work 0) made []) c8.machine
+c9 = grown c8 (created (split (now c8) 1028) 0 1 (Change.key made) (Change.row made)) 0 (installs (c8.work 0) made []) c8.machine
 
 pub past9 : (u : ℕ) → 3 ≤ u → c9.work u ≡ ended
 past9 = past_put c8.work 0 _ ended (omega arith) past8
@@ -253,7 +253,7 @@ past9 = past_put c8.work 0 _ ended (omega arith) past8
 pub slots9 : (u : ℕ) → 3 ≤ u → (now c9).slot u ≡ None
 slots9 = slots8
 
-pub does9 : Happens small (creates 0) c8 c9
+pub does9 : Happens small (creates 0 1028) c8 c9
 unfolding catalog_name
 does9 = (
   t1x,
@@ -271,6 +271,7 @@ does9 = (
     todo = refl;
   },
   refl,
+  (let z : (now c8).pages ≤ 1028 = omega arith in z),
   refl,
 )
 

@@ -137,7 +137,7 @@ does40 = (
 abbrev pub events4 : List Event
 events4 = takes_up 0 ∷
     (judges 0 ∷ (begins 0 ∷
-    (writes 0 ∷ (commits 0 ∷
+    (writes 0 1030 ∷ (commits 0 ∷
     (appends 5 ∷ (writer_falls 0 (0 ∷ (1 ∷ [])) ∷
     (table (entry.Reply 0 reply.Unavailable) ∷
     (table (entry.Reply 1 reply.Unavailable) ∷

@@ -39,8 +39,8 @@ module _ (language : Language) where
   step_cut (judges s) c d l z h g =
       subst (λ x. IsCut x l) (sym h) (record { closed = g.closed; order = g.order; stays = g.stays })
   step_cut (begins s) c d l z h g = absurd (g.closed h.1)
-  step_cut (writes s) c d l z h g = let m : MayInstall c s h.0 h.1 h.2 h.3 = h.4 in absurd (g.closed m.open_mode)
-  step_cut (creates s) c d l z h g = let m : MayInstall c s h.0 h.1 h.2 h.3 = h.4 in absurd (g.closed m.open_mode)
+  step_cut (writes s p) c d l z h g = let m : MayInstall c s h.0 h.1 h.2 h.3 = h.4 in absurd (g.closed m.open_mode)
+  step_cut (creates s p) c d l z h g = let m : MayInstall c s h.0 h.1 h.2 h.3 = h.4 in absurd (g.closed m.open_mode)
   step_cut (splits s p) c d l z h g =
       subst (λ x. IsCut x l) (sym h.3) (grown_cut c l _ s (c.work s) c.machine g refl)
   step_cut (commits s) c d l z h g = let m : MayCommit c s h.0 = h.1 in absurd (g.closed m.open_mode)

@@ -18,15 +18,16 @@ use Rattle.version_store.specs.Versions.{seen_root}
 use Rattle.history.specs.Clusters.{Cluster, Dead, Open, Taken, Work, ended, evaluated_by, grown, is_lost, is_taken, now, own, reads, works}
 use Rattle.history.specs.Databases.{StandsFor}
 
--- Those with a number of their own are of that session, but for `splits`, which has a page beside it,
--- `appends`, which has an LSN, and the last four, which have a node.
+-- Those with a number of their own are of that session, but for `appends`, which has an LSN, and the last four,
+-- which have a node. The count of pages beside `writes`, `creates` and `splits` is the one up to which the same
+-- group makes pages: for a change the undo page that it needs, if any.
 pub data Event : Type 0 where
   table : Entry → Event  -- of the session table alone
   takes_up : ℕ → Event  -- a write is taken up
   judges : ℕ → Event  -- and its answer and its conflicts are found, some turns later
   begins : ℕ → Event
-  writes : ℕ → Event
-  creates : ℕ → Event
+  writes : ℕ → ℕ → Event
+  creates : ℕ → ℕ → Event
   splits : ℕ → ℕ → Event
   commits : ℕ → Event
   appends : ℕ → Event
@@ -175,15 +176,15 @@ Happens language (judges s) c d = d ≡ record c { work = put c.work s (record (
 Happens language (begins s) c d =
     NoJob c × (c.mode ≡ Open) × ((now c).slot s ≡ None) × (is_some (c.machine.sessions s).transaction ≡ true)
     × (d ≡ grown c (begun (now c) s) s (record (c.work s) { ending = false }) c.machine)
-Happens language (writes s) c d =
+Happens language (writes s p) c d =
     (t : Transaction) × (n : ℕ) × (h : Change) × (hs : List Change)
-    × MayInstall c s t n h hs × (bytes_eq h.table catalog_name ≡ false)
+    × MayInstall c s t n h hs × (bytes_eq h.table catalog_name ≡ false) × ((now c).pages ≤ p)
     × ((r : ℕ) × (seen_root ((now c).rows catalog h.table) (now c).stamp t.snap (own c s) ≡ Some r)
-    × (d ≡ grown c (changed (now c) s n r h.key h.row) s (installs (c.work s) h hs) c.machine))
-Happens language (creates s) c d =
+    × (d ≡ grown c (changed (split (now c) p) s n r h.key h.row) s (installs (c.work s) h hs) c.machine))
+Happens language (creates s p) c d =
     (t : Transaction) × (n : ℕ) × (h : Change) × (hs : List Change)
-    × MayInstall c s t n h hs × (bytes_eq h.table catalog_name ≡ true)
-    × (d ≡ grown c (created (now c) s n h.key h.row) s (installs (c.work s) h hs) c.machine)
+    × MayInstall c s t n h hs × (bytes_eq h.table catalog_name ≡ true) × ((now c).pages ≤ p)
+    × (d ≡ grown c (created (split (now c) p) s n h.key h.row) s (installs (c.work s) h hs) c.machine)
 Happens language (splits s p) c d =
     NoJob c × (c.mode ≢ Dead) × ((now c).pages ≤ p) × (d ≡ grown c (split (now c) p) s (c.work s) c.machine)
 Happens language (commits s) c d =

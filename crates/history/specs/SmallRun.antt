@@ -17,18 +17,18 @@ making =
     table (entry.Join 0 (codes "x") 0) ∷
     (table (entry.Join 1 (codes "y") 0) ∷ (table (entry.Join 2 (codes "z") 1)
     ∷ (table (entry.Submit 0 (codes "create")) ∷ (table (entry.Snap 0) ∷ (takes_up 0 ∷ (judges 0 ∷ (begins 0
-    ∷ (creates 0 ∷ (commits 0 ∷ (appends 3 ∷ (settle ∷ (table (entry.Reply 0 (reply.Ok 0)) ∷ []))))))))))))
+    ∷ (creates 0 1028 ∷ (commits 0 ∷ (appends 3 ∷ (settle ∷ (table (entry.Reply 0 (reply.Ok 0)) ∷ []))))))))))))
 
--- session 1 inserts b, session 0 inserts a and commits, and the log store has the group up to the first of them
+-- session 1 inserts b, with an undo page made for it, session 0 inserts a and commits, and the log store has the group up to the first of them
 abbrev pub inserting_b : List Event
 inserting_b =
     table (entry.Submit 1 (codes "insert b")) ∷
-    (table (entry.Snap 1) ∷ (takes_up 1 ∷ (judges 1 ∷ (begins 1 ∷ (writes 1 ∷ [])))))
+    (table (entry.Snap 1) ∷ (takes_up 1 ∷ (judges 1 ∷ (begins 1 ∷ (writes 1 1030 ∷ [])))))
 
 abbrev pub inserting_a : List Event
 inserting_a =
     table (entry.Submit 0 (codes "insert a")) ∷
-    (table (entry.Snap 0) ∷ (takes_up 0 ∷ (judges 0 ∷ (begins 0 ∷ (writes 0
+    (table (entry.Snap 0) ∷ (takes_up 0 ∷ (judges 0 ∷ (begins 0 ∷ (writes 0 1030
     ∷ (commits 0 ∷ (appends 5 ∷ [])))))))
 
 -- node 0 is lost; its last append is kept late; node 1 takes over
