@@ -1,3 +1,9 @@
 pub mod Leaves
 pub mod Counts
 pub mod Splits
+pub mod Following
+pub mod Keys
+pub mod Writing
+pub mod Making
+pub mod Widening
+pub mod Undoing

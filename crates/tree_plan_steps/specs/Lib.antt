@@ -1,2 +1,5 @@
 pub mod Ways
 pub mod Laws
+pub mod Following
+pub mod Planned
+pub mod EventLaws

@@ -1,4 +1,7 @@
+ghost use Rattle.tree_plan_steps.specs.EventLaws.{BeginFollows, CommitFollows, CreateFollows, FreeFollows, RootSplitFollows, SplitFollows, UndoFollows, WriteFollows};
 ghost use Rattle.tree_plan_steps.specs.Laws.{PutChangesLeaf, RemoveChangesLeaf, RootSplitIsSplit, SplitIsSplit};
+
+use table_machine::Language;
 
 /// The plans of a tree's changes are the tree's part of the groups that change a store of versions: those that put
 /// an item or remove one, and those that split a page or the root. It does nothing when it is run.
@@ -7,4 +10,17 @@ pub fn plan_laws()
     ensures remove { RemoveChangesLeaf }
     ensures split { SplitIsSplit }
     ensures root_split { RootSplitIsSplit }
+{}
+
+/// The group of each plan makes of the store that pages hold exactly the step that the event of a cluster's history
+/// asks for: the event happens, and the pages then hold the store that it leaves. It does nothing when it is run.
+pub fn event_laws<L: Language>()
+    ensures begin { BeginFollows L.language }
+    ensures write { WriteFollows L.language }
+    ensures create { CreateFollows L.language }
+    ensures split { SplitFollows L.language }
+    ensures root_split { RootSplitFollows L.language }
+    ensures commit { CommitFollows L.language }
+    ensures undo { UndoFollows L.language }
+    ensures free { FreeFollows L.language }
 {}

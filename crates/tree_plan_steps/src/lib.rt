@@ -1,6 +1,7 @@
-//! The plans of trees give the steps of a store of versions what they ask of a tree: laws.
+//! The plans of trees and of versions give a store of versions, and the events of a cluster's history, what these ask
+//! of them: laws.
 #![tactic(auto)]
 
 mod laws;
 
-pub use laws::plan_laws;
+pub use laws::{event_laws, plan_laws};
