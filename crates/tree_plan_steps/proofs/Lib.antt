@@ -7,3 +7,4 @@ pub mod Writing
 pub mod Making
 pub mod Widening
 pub mod Undoing
+pub mod UndoItems

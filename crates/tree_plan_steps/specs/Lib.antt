@@ -3,3 +3,4 @@ pub mod Laws
 pub mod Following
 pub mod Planned
 pub mod EventLaws
+pub mod UndoItemLaws

@@ -1,5 +1,6 @@
 ghost use Rattle.tree_plan_steps.specs.EventLaws.{BeginFollows, CommitFollows, CreateFollows, FreeFollows, RootSplitFollows, SplitFollows, UndoFollows, WriteFollows};
 ghost use Rattle.tree_plan_steps.specs.Laws.{PutChangesLeaf, RemoveChangesLeaf, RootSplitIsSplit, SplitIsSplit};
+ghost use Rattle.tree_plan_steps.specs.UndoItemLaws.{LastUndoIsNewest, LastUndoIsRead, OlderIsUndo};
 
 use table_machine::Language;
 
@@ -23,4 +24,13 @@ pub fn event_laws<L: Language>()
     ensures commit { CommitFollows L.language }
     ensures undo { UndoFollows L.language }
     ensures free { FreeFollows L.language }
+{}
+
+/// The undo item that is read for the last change of a transaction is the one of the first entry of its undo list,
+/// within its limits; and what it says stood there is the version before the newest of that place. It does nothing
+/// when it is run.
+pub fn undo_item_laws()
+    ensures limits { OlderIsUndo }
+    ensures newest { LastUndoIsNewest }
+    ensures read { LastUndoIsRead }
 {}
