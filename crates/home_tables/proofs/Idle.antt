@@ -1,7 +1,6 @@
 -- A page to which a node refers may not be given away.
 use Rattle.std.specs.Option.{option_map, is_none}
-use Rattle.std.proofs.Common.{◌≡◌, Option, Some, None, ℕ, Bool, true, false, ◌&&◌, List, [], ◌∷◌, refl, ap}
-use Rattle.home_model.specs.Numbered.{put}
+use Rattle.std.proofs.Common.{◌≡◌, Option, Some, None, ℕ, true, false, List, [], ◌∷◌, refl}
 use Rattle.page_latches.specs.Set.{has}
 use Rattle.home_tables.specs.Table.{entry_of, address_number, is_none_of, is_idle}
 use Rattle.rm_base.specs.declared.places.Addr.{Addr}

@@ -5,4 +5,5 @@ pub mod Marks
 pub mod Tables
 pub mod Order
 pub mod Losing
+pub mod Passing
 pub mod Replacing

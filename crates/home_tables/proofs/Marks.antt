@@ -1,7 +1,7 @@
 -- Lemmas on the marks of one page in the sets of all nodes.
-use Rattle.std.proofs.Common.{◌≡◌, ◌≢◌, ◌≤◌, ◌<◌, ◌+◌, ◌*◌, ℕ, Bool, true, false, ◌&&◌, List, length, set, if◌then◌else◌, nat_eq, nat_lt, eqb-true, refl, sym, ◌∙◌, ap, subst, arith, get_or-set_same, get_or-set_other}
+use Rattle.std.proofs.Common.{◌≡◌, ◌≢◌, ◌≤◌, ◌<◌, ◌+◌, ◌*◌, ℕ, Bool, true, false, ◌&&◌, List, length, set, if◌then◌else◌, nat_eq, nat_lt, eqb-true, refl, ◌∙◌, ap, arith, get_or-set_same, get_or-set_other}
 use Rattle.page_latches.specs.Set.{has as has_node}
-use Rattle.home_tables.specs.Numbers.{has, has_page, number_of}
+use Rattle.home_tables.specs.Numbers.{has, has_page}
 
 in_turn : (q page n k : ℕ) (nodes : List ℕ) (was : Bool) → (n ≡ k → q ≡ page → ⊥)
     → (if (nat_eq q page && nat_lt n k) then has_node nodes n else was) ≡ (if (nat_eq q page && nat_lt n (k + 1)) then has_node nodes n else was)

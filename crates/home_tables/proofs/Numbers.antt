@@ -1,7 +1,7 @@
 -- Lemmas on sets of numbers and their groups.
-use Rattle.std.proofs.Common.{◌≡◌, ◌≢◌, ◌≤◌, ◌<◌, ◌+◌, ◌*◌, ◌/◌, ◌%◌, ℕ, zero, suc, Bool, true, false, List, [], ◌∷◌, length, replicate, set, get_or, refl, sym, ◌∙◌, ap, arith, length-set, get_or-set_same, get_or-set_other, nat_eq, eqb-true}
+use Rattle.std.proofs.Common.{◌≡◌, ◌≢◌, ◌≤◌, ◌<◌, ◌+◌, ◌*◌, ◌/◌, ℕ, zero, suc, Bool, true, false, List, length, replicate, set, refl, sym, ◌∙◌, ap, arith, length-set, get_or-set_same, get_or-set_other, nat_eq, eqb-true}
 use Rattle.std.proofs.lemmas.List.{length-replicate}
-use Rattle.home_tables.specs.Numbers.{has, HasNone, IsLeast, AreMarked}
+use Rattle.home_tables.specs.Numbers.{has, HasNone, AreMarked}
 
 pub has_blank : (n x : ℕ) → has (replicate n false) x ≡ false
 has_blank zero x = refl

@@ -1,5 +1,5 @@
 -- A page gets the slot of a page that is given away.
-use Rattle.std.proofs.Common.{IsNone, IfSome, ◌↔◌, ◌≡◌, ◌≢◌, ◌<◌, ℕ, Bool, true, false, Option, Some, None, if◌then◌else◌, nat_eq, eqb-true, refl, sym, ◌∙◌, ap, subst, arith}
+use Rattle.std.proofs.Common.{IsNone, IfSome, ◌↔◌, ◌≡◌, ◌≢◌, ℕ, Bool, true, false, Option, Some, None, if◌then◌else◌, nat_eq, eqb-true, refl, sym, ◌∙◌, ap, subst}
 use Rattle.std.proofs.lemmas.Bool.{true≢false}
 use mathlib.Core.Path.{fun_ext}
 use Rattle.std.specs.Option.{option_map}

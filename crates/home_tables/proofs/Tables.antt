@@ -1,9 +1,8 @@
 -- Each call as one step of the entries.
-use Rattle.std.proofs.Common.{◌≡◌, ◌↔◌, ℕ, Bool, true, false, List, Option, Some, None, nat_eq, refl, sym, ◌∙◌, ap, subst}
+use Rattle.std.proofs.Common.{◌≡◌, ◌↔◌, ℕ, List, Option, Some, nat_eq, refl, sym, ◌∙◌, ap, subst}
 use Rattle.std.proofs.lemmas.Bool.{true≢false}
 use Rattle.std.proofs.lemmas.Map.Steps.{set_value_same}
 use Rattle.std.specs.Map.{set_value}
-use Rattle.home_model.specs.Latch.{Latch}
 use Rattle.home_model.specs.Entry.{Entry as HomeEntry}
 use Rattle.page_latches.specs.declared.latch.Mode.{Mode}
 use Rattle.page_latches.specs.declared.latch.Holders.{Holders}
@@ -12,7 +11,7 @@ use Rattle.page_latches.specs.declared.latch.Latch.TheVariants.{Granted, Busy}
 use Rattle.page_latches.specs.Holding.{IsGranted, OnGranted, OnBusy, latch_of}
 use Rattle.home_tables.specs.Table.{entry_of}
 use Rattle.home_tables.specs.Access.{MayTake, taken_by}
-use Rattle.home_tables.specs.Home.{HomeState, home_of, kept_in, entry_at, ChangesAt}
+use Rattle.home_tables.specs.Home.{home_of, kept_in, entry_at, ChangesAt}
 use Rattle.home_tables.specs.Trying.{Tries}
 use Rattle.home_tables.specs.declared.entry.Entry.{Entry}
 use Rattle.home_tables.proofs.Entries.{changed_at}

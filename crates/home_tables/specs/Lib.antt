@@ -3,6 +3,7 @@ pub mod Table
 pub mod Access
 pub mod Pairs
 pub mod Home
+pub mod Places
 pub mod Trying
 pub mod Order
 pub mod Losing

@@ -1,7 +1,6 @@
 -- Stated: what a kick of a node, a drop of a slab and a sweep do to the entries.
-use Rattle.std.specs.Prelude.{◌≡◌, ◌≢◌, ℕ, Bool, Option, Some, None, if◌then◌else◌}
-use Rattle.home_model.specs.Entry.{Entry as HomeEntry, no_entry, kicked, dropped, swept, stays}
-use Rattle.rm_base.specs.declared.places.Addr.{Addr}
+use Rattle.std.specs.Prelude.{◌≡◌, ◌≢◌, ℕ, Option, Some, None, if◌then◌else◌}
+use Rattle.home_model.specs.Entry.{Entry as HomeEntry, no_entry, kicked, dropped, swept}
 use Rattle.home_tables.specs.Table.{entry_of, is_on}
 use Rattle.home_tables.specs.Home.{HomeState, kept, entry_at}
 use Rattle.home_tables.specs.declared.entry.Entry.{Entry}
@@ -18,11 +17,6 @@ lost_on slab (Some e) = if is_on slab e.addr then dropped (entry_of (Some e)) el
 -- the entry after a sweep at that tail
 abbrev pub swept_to : ℕ → Option Entry → HomeEntry
 swept_to tail o = swept (entry_of o) tail
-
--- the slot that is free again where a sweep removes the entry
-abbrev pub freed_by : ℕ → Option Entry → Option Addr
-freed_by tail None = None
-freed_by tail (Some e) = if stays (entry_of (Some e)) tail then None else e.addr
 
 -- what is kept of page p has become f of what was kept of it; all else stays
 pub record Becomes (before after : HomeState) (p : ℕ) (f : Option Entry → HomeEntry) : Type 0 where

@@ -1,17 +1,20 @@
 ghost use Rattle.std.specs.Prelude.{◌≡◌, ◌≢◌, ◌≤◌, ◌<◌, ◌+◌, ◌-◌, ◌*◌, ◌↔◌, ◌&&◌, ℕ, true, false, [], length, nat_eq, if◌then◌else◌, slice_set, Some, None, is_some, IfOk, IfSome, IsNone, OnOk, OnErr};
+ghost use Rattle.std.specs.List.{IsDistinct};
 ghost use Rattle.std.specs.Option.{option_copied};
 ghost use Rattle.home_model.specs.Numbered.{put};
-ghost use Rattle.home_model.specs.Entry.{no_entry, takes_slot, registered, invalidated, struck, raised, stays, swept};
+ghost use Rattle.home_model.specs.Entry.{no_entry, takes_slot, registered, invalidated, struck, raised};
 ghost use Rattle.page_latches.specs.Set.{has};
 ghost use Rattle.home_tables.specs.Numbers.{has_page};
 ghost use Rattle.home_tables.specs.Table.{address_number, is_on};
 ghost use Rattle.home_tables.specs.Access.{accessed};
-ghost use Rattle.home_tables.specs.Losing.{kept_from, lost_on, swept_to, freed_by};
 ghost use Rattle.home_tables.specs.Pairs.{pair_number, earlier, IsFirst};
+
+mod losing;
 
 use crate::entry::{Access, Entry, later};
 use crate::number_set::NumberSet;
 use indexmap::IndexMap;
+use indexmap::map::Slice;
 use page_latches::{Latch, Mode, NodeSet};
 use rm_base::{Addr, Lsn, NodeId, PageId, SlabId, WantOfMemory};
 use std::alloc::Global;
@@ -123,7 +126,7 @@ impl Home {
     ghost use Rattle.home_tables.specs.Home.{HomeState, kept, entry_at, ChangesAt};
     ghost use Rattle.home_tables.specs.Trying.{Tries};
     ghost use Rattle.home_tables.specs.Order.{due_at, due_among, IsFirstIdle};
-    ghost use Rattle.home_tables.specs.Losing.{Becomes, AllBecome};
+    ghost use Rattle.home_tables.specs.Places.{pages_in, KeepsBefore};
     ghost use Rattle.home_tables.specs.Replacing.{Replaces};
 
     /// A home without entries.
@@ -165,6 +168,14 @@ impl Home {
         ensures { option_copied result ≡ kept self.now page }
     {
         self.entries.get(&page)
+    }
+
+    /// The entries with their pages, in no order of the pages.
+    pub fn entries(&self) -> Slice<'_, PageId, Entry>
+        ensures list { result ≡ self.now.entries }
+        ensures apart { IsDistinct nat_eq (pages_in self.now) }
+    {
+        self.entries.as_slice()
     }
 
     /// Whether the page has no entry or has lost its slot.
@@ -289,6 +300,7 @@ impl Home {
         ensures beside { (q : ℕ) → q ≢ page → kept self.new q ≡ kept self.old q }
         ensures watermark { self.new.watermark ≡ self.old.watermark }
         ensures same { IsNone result → self.new ≡ self.old }
+        ensures front { KeepsBefore self.old self.new page }
     {
         let entry = self.entries.swap_remove(&page)?;
         let nobody = NodeSet::new();
@@ -392,86 +404,5 @@ impl Home {
         let (page, node) = self.first_due(up)?;
         self.strike(page, node);
         Some((page, node))
-    }
-
-    fn kick_at(&mut self, page: PageId, node: NodeId)
-        ensures { Becomes self.old self.new page (kept_from node) }
-    {
-        if let Some(entry) = self.entries.get_mut(&page) {
-            entry.kick(node);
-            let is_idle = entry.is_idle();
-            let addr = entry.addr;
-            mark_idle(&mut self.idle, page, addr, is_idle);
-            mark_due(&mut self.due, page, &entry.due);
-        }
-    }
-
-    /// The node has neither a reference nor a due pair nor a latch of any page.
-    pub fn release_all(&mut self, node: NodeId)
-        ensures { AllBecome self.old self.new (kept_from node) }
-    {
-        let _watermark = self.watermark;
-        for number in 0..PAGES {
-            self.kick_at(page_of(number, 0), node);
-        }
-    }
-
-    fn lose_at(&mut self, page: PageId, slab: SlabId)
-        ensures { Becomes self.old self.new page (lost_on slab) }
-    {
-        if let Some(entry) = self.entries.get_mut(&page) {
-            let addr = entry.addr;
-            entry.lose(slab);
-            let is_offered = entry.is_offered();
-            mark_idle(&mut self.idle, page, addr, is_offered);
-        }
-    }
-
-    /// The slab is lost, and each page loses the slot that it has there.
-    pub fn drop_slab(&mut self, slab: SlabId)
-        ensures { AllBecome self.old self.new (lost_on slab) }
-    {
-        let _watermark = self.watermark;
-        for number in 0..PAGES {
-            self.lose_at(page_of(number, 0), slab);
-        }
-    }
-
-    fn settle_at(&mut self, page: PageId, tail: Lsn)
-        requires { stays (entry_at self.old page) tail ≡ true }
-        ensures { Becomes self.old self.new page (swept_to tail) }
-    {
-        if let Some(entry) = self.entries.get_mut(&page) {
-            entry.settle(tail);
-            let is_idle = entry.is_idle();
-            let addr = entry.addr;
-            mark_idle(&mut self.idle, page, addr, is_idle);
-            mark_due(&mut self.due, page, &entry.due);
-        }
-    }
-
-    /// Sweeps the page at the tail: its entry goes, or stays with no node. The answer is the slot that
-    /// is free again.
-    pub fn sweep_page(&mut self, page: PageId, tail: Lsn) -> Option<Addr>
-        ensures swept { Becomes self.old self.new page (swept_to tail) }
-        ensures freed { result ≡ freed_by tail (kept self.old page) }
-    {
-        let stays = match self.entries.get(&page) {
-            Some(entry) => entry.stays(tail),
-            None => return None,
-        };
-        if stays {
-            self.settle_at(page, tail);
-            return None;
-        }
-        let entry = self.remove(page)?;
-        entry.addr
-    }
-
-    /// Sets the floor of pages that have no entry.
-    pub fn set_watermark(&mut self, at: Lsn)
-        ensures { self.new ≡ record self.old { watermark = at } }
-    {
-        self.watermark = at;
     }
 }

@@ -78,13 +78,11 @@ fn a_slab_is_lost(rt: HostRuntime) -> Result<(), Fail> {
 }
 
 #[test]
-fn a_sweep_frees_the_slot_of_a_page_with_bit_1(rt: HostRuntime) -> Result<(), Fail> {
+fn a_sweep_removes_a_page_with_bit_1(rt: HostRuntime) -> Result<(), Fail> {
     let page = PageId::new(9).ok_or("page")?;
     let mut home = home_with(rt.alloc(), page, NodeId::default())?;
-    assert!(rt;
-        home.sweep_page(page, Lsn::new(8))
-            .is_some_and(|slot| slot.slot == 3)
-    );
+    home.sweep(Lsn::new(8));
     assert!(rt; home.entry(page).is_none());
+    assert_eq!(rt; home.watermark().number(), 8);
     Ok(())
 }

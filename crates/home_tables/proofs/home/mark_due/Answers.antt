@@ -1,5 +1,4 @@
-use Rattle.std.proofs.Common.{◌≡◌, ◌≤◌, ◌<◌, ◌+◌, ◌*◌, ◌&&◌, ℕ, Bool, List, length, set, length-set, nat_eq, nat_lt, if◌then◌else◌, sym, ◌∙◌, ap, subst, arith}
-use Rattle.page_latches.specs.Set.{has}
+use Rattle.std.proofs.Common.{◌≡◌, ◌≤◌, ◌+◌, ◌*◌, ℕ, Bool, List, length, length-set, sym, ◌∙◌, ap, subst, arith}
 use Rattle.home_tables.specs.Numbers.{has_page}
 use Rattle.home_tables.proofs.Marks.{mark_step}
 use Rattle.home_tables.proofs.home.mark_due.Goals as goal

@@ -1,13 +1,11 @@
-use Rattle.std.proofs.Common.{◌≡◌, ◌<◌, ℕ, Bool, List, ◌&&◌, IsSome, Some, Option, nat_eq, if◌then◌else◌, refl, sym, ap, subst}
-use Rattle.std.specs.Map.{set_value}
-use Rattle.page_latches.specs.Set.{has}
+use Rattle.std.proofs.Common.{◌≡◌, ◌<◌, ℕ, Bool, List, ◌&&◌, Some, nat_eq, if◌then◌else◌, sym, subst}
 use Rattle.home_tables.specs.Numbers.{has_page}
 use Rattle.home_tables.specs.Table.{is_idle, is_on}
 use Rattle.home_tables.specs.Access.{accessed}
 use Rattle.home_tables.specs.Home.{HomeState, home_of, kept_in, AreKept, ChangesAt}
 use Rattle.home_tables.specs.declared.entry.Entry.{Entry}
-use Rattle.home_tables.proofs.Entries.{kept_marked, kept_due}
-use Rattle.home_tables.proofs.Tables.{changes_at, tries_at}
+use Rattle.home_tables.proofs.Entries.{kept_marked}
+use Rattle.home_tables.proofs.Tables.{changes_at}
 use Rattle.home_tables.proofs.home.Home.access.Goals as goal
 
 pub mark_idle-requires : goal.mark_idle-requires

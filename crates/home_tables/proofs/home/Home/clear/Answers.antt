@@ -1,4 +1,4 @@
-use Rattle.std.proofs.Common.{◌≤◌, ◌≡◌, ◌∙◌, ℕ, length, sym, subst}
+use Rattle.std.proofs.Common.{◌≤◌, ℕ, sym, subst}
 use Rattle.home_tables.proofs.Entries.{kept_none}
 use Rattle.home_tables.proofs.home.Home.clear.Goals as goal
 

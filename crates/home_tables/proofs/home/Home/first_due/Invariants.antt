@@ -1,6 +1,4 @@
-use Rattle.std.proofs.Common.{◌&&◌, take}
-use Rattle.page_latches.specs.Set.{has}
-use Rattle.home_tables.specs.Home.{entry_at}
+use Rattle.std.proofs.Common.{take}
 use Rattle.home_tables.specs.Order.{due_among}
 use Rattle.home_tables.specs.Pairs.{IsFirst}
 use Rattle.home_tables.proofs.home.Home.first_due.Given as goal

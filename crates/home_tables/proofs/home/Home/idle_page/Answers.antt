@@ -1,8 +1,7 @@
-use Rattle.std.proofs.Common.{◌≡◌, ◌<◌, ◌∙◌, ◌-◌, ◌*◌, ℕ, Some, subst, sym, arith}
-use Rattle.home_tables.specs.Home.{HomeState, home_of, entry_at}
-use Rattle.home_tables.specs.Order.{due_at, IsFirstIdle}
-use Rattle.home_tables.specs.Pairs.{IsFirst}
-use Rattle.home_tables.proofs.Order.{no_due, first_due, no_idle, first_idle}
+use Rattle.std.proofs.Common.{◌≡◌, ◌<◌, ◌∙◌, ℕ, Some, subst, sym, arith}
+use Rattle.home_tables.specs.Home.{HomeState, home_of}
+use Rattle.home_tables.specs.Order.{IsFirstIdle}
+use Rattle.home_tables.proofs.Order.{first_idle}
 use Rattle.home_tables.proofs.home.Home.idle_page.Goals as goal
 
 pub returns : goal.returns

@@ -1,14 +1,13 @@
-use Rattle.std.proofs.Common.{◌≡◌, ◌≤◌, ◌<◌, ◌∙◌, ℕ, Bool, true, false, List, ◌&&◌, IsSome, Some, None, Option, nat_eq, length, if◌then◌else◌, refl, sym, ap, subst, arith}
-use Rattle.std.specs.Map.{set_value}
-use Rattle.std.specs.Option.{is_some}
-use Rattle.home_model.specs.Entry.{Entry as HomeEntry, no_entry, stays}
+use Rattle.std.proofs.Common.{◌≡◌, ◌<◌, ℕ, Bool, List, ◌&&◌, Some, nat_eq, if◌then◌else◌, sym, subst}
+use Rattle.std.specs.Map.{keys_of}
+use Rattle.home_tables.specs.Places.{pages_in}
 use Rattle.home_tables.specs.Numbers.{has_page}
-use Rattle.home_tables.specs.Table.{entry_of, is_idle, is_on}
-use Rattle.home_tables.specs.Home.{HomeState, home_of, kept, kept_in, entry_at, AreKept}
-use Rattle.home_tables.specs.Losing.{Becomes, AllBecome, kept_from, lost_on, swept_to}
+use Rattle.home_tables.specs.Table.{is_idle, is_on}
+use Rattle.home_tables.specs.Home.{HomeState, home_of, kept_in, AreKept}
+use Rattle.home_tables.specs.Losing.{Becomes, kept_from}
 use Rattle.home_tables.specs.declared.entry.Entry.{Entry}
-use Rattle.home_tables.proofs.Entries.{kept_both, kept_lost}
-use Rattle.home_tables.proofs.Losing.{BecomeBelow, become_none, become_more, become_all, becomes, becomes_none, kick_none}
+use Rattle.home_tables.proofs.Entries.{kept_both}
+use Rattle.home_tables.proofs.Losing.{becomes, same_pages}
 use Rattle.home_tables.proofs.home.Home.kick_at.Goals as goal
 
 pub mark_idle-requires : goal.mark_idle-requires
@@ -27,8 +26,8 @@ invariant_of-self c =
     subst (λ (new : List (ℕ × Entry)). AreKept new c.mark_idle.new.idle c.mark_due.new.due) (sym (c.get_mut.follows.holds e').0)
     (kept_both es c.self.inside.idle c.mark_idle.new.idle c.self.inside.due c.mark_due.new.due c.args.page c.in-Some.entry.now e' c.self.invariant found c.kick.ensures.slot marks c.mark_idle.ensures.bound c.mark_due.ensures.marks c.mark_due.ensures.bound)
 
-pub returns-in-Some : goal.returns-in-Some
-returns-in-Some c =
+pub returns-in-Some-clause-entry : goal.returns-in-Some-clause-entry
+returns-in-Some-clause-entry c =
     let e' = c.kick.new.self in
     let es = c.self.inside.entries.entries in
     let w = c.self.inside.watermark in
@@ -36,3 +35,10 @@ returns-in-Some c =
     subst (λ (H : HomeState). Becomes H (home_of (c.get_mut.follows.lender e').entries w) c.args.page (kept_from c.args.node)) c.self.view_is
     (subst (λ (new : List (ℕ × Entry)). Becomes (home_of es w) (home_of new w) c.args.page (kept_from c.args.node)) (sym (c.get_mut.follows.holds e').0)
     (becomes es w c.args.page c.in-Some.entry.now e' (kept_from c.args.node) found c.kick.ensures.model))
+
+pub returns-in-Some-clause-pages : goal.returns-in-Some-clause-pages
+returns-in-Some-clause-pages c =
+    let e' = c.kick.new.self in
+    let es = c.self.inside.entries.entries in
+    subst (λ (H : HomeState). keys_of (c.get_mut.follows.lender e').entries ≡ pages_in H) c.self.view_is
+    (subst (λ (new : List (ℕ × Entry)). keys_of new ≡ keys_of es) (sym (c.get_mut.follows.holds e').0) (same_pages es c.args.page e'))

@@ -1,12 +1,5 @@
-use Rattle.std.proofs.Common.{◌≡◌, ◌≤◌, ◌<◌, ◌∙◌, ℕ, Bool, true, false, List, ◌&&◌, IsSome, Some, None, Option, nat_eq, cond, length, if◌then◌else◌, refl, sym, ap, subst, arith}
-use Rattle.std.specs.Map.{set_value}
-use Rattle.std.specs.Option.{is_some}
-use Rattle.home_model.specs.Numbered.{put, nobody}
-use Rattle.home_model.specs.Entry.{Entry as HomeEntry, registered, takes_slot, no_entry}
-use Rattle.home_tables.specs.Table.{address_number, entry_of}
-use Rattle.home_tables.specs.Home.{HomeState, home_of, kept_in, kept, entry_at, AreKept}
-use Rattle.home_tables.specs.declared.entry.Entry.{Entry}
-use Rattle.home_tables.proofs.Entries.{changed_at, put_at, at_put, lost_slot, not_found, kept_none, kept_entered, kept_added, kept_removed}
+use Rattle.std.proofs.Common.{◌≡◌, length, arith}
+use Rattle.home_tables.proofs.Entries.{kept_none}
 use Rattle.home_tables.proofs.home.Home.new.Goals as goal
 
 pub invariant_of-result : goal.invariant_of-result

@@ -1,12 +1,11 @@
-use Rattle.std.proofs.Common.{◌≡◌, ◌≢◌, eqb-true, ◌≤◌, ◌<◌, ◌∙◌, ℕ, Bool, true, false, List, ◌&&◌, IsSome, Some, None, Option, nat_eq, cond, length, if◌then◌else◌, refl, sym, ap, subst, arith}
-use Rattle.std.specs.Map.{set_value}
-use Rattle.std.specs.Option.{is_some}
-use Rattle.home_model.specs.Numbered.{put, nobody}
-use Rattle.home_model.specs.Entry.{Entry as HomeEntry, registered, takes_slot, no_entry}
-use Rattle.home_tables.specs.Table.{address_number, entry_of}
-use Rattle.home_tables.specs.Home.{HomeState, home_of, kept_in, kept, entry_at, AreKept}
+use Rattle.std.proofs.Common.{◌≡◌, ◌≢◌, eqb-true, ◌+◌, ◌∙◌, ℕ, Bool, true, false, List, Some, None, nat_eq, if◌then◌else◌, refl, sym, subst, arith}
+use Rattle.home_tables.specs.Home.{HomeState, kept_in, kept}
 use Rattle.home_tables.specs.declared.entry.Entry.{Entry}
-use Rattle.home_tables.proofs.Entries.{changed_at, put_at, at_put, lost_slot, not_found, kept_none, kept_entered, kept_added, kept_removed}
+use Rattle.home_tables.proofs.Entries.{at_put, kept_removed}
+use Rattle.std.specs.Map.{keys_of}
+use Rattle.std.specs.List.{slice_get}
+use Rattle.home_tables.specs.Places.{pages_in, is_among}
+use Rattle.home_tables.proofs.Passing.{keeps_before}
 use Rattle.home_tables.proofs.home.Home.remove.Goals as goal
 
 pub mark_idle-requires : goal.mark_idle-requires
@@ -45,3 +44,11 @@ returns-clause-beside c =
     let new = c.swap_remove.new.self.entries in
     let p : ℕ = c.args.page in
     subst (λ (H : HomeState). kept_in new q ≡ kept H q) c.self.view_is (at_put es new p None c.in_ok-entry.ensures.updates.0 q ∙ not_here es p q (nat_eq q p) refl apart)
+
+pub returns-clause-front : goal.returns-clause-front
+returns-clause-front c =
+    let es = c.self.inside.entries.entries in
+    let new = c.swap_remove.new.self.entries in
+    let p : ℕ = c.args.page in
+    subst (λ (H : HomeState). (i : ℕ) → is_among (i + 1) (pages_in H) p ≡ false → slice_get (keys_of new) i ≡ slice_get (pages_in H) i) c.self.view_is
+    (subst (λ (fs : List (ℕ × Entry)). (i : ℕ) → is_among (i + 1) (keys_of es) p ≡ false → slice_get (keys_of fs) i ≡ slice_get (keys_of es) i) (sym c.in_ok-entry.ensures.entries) (keeps_before es p))
