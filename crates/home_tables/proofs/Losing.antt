@@ -15,11 +15,11 @@ use Rattle.home_tables.proofs.Entries.{at_changed}
 pub same_pages : (es : List (ℕ × Entry)) (p : ℕ) (e' : Entry) → keys_of (set_value (nat_eq p) es e') ≡ keys_of es
 same_pages es p e' = keys-set_value (nat_eq p) es e'
 
-pub becomes : (es : List (ℕ × Entry)) (w p : ℕ) (e e' : Entry) (f : Option Entry → HomeEntry) → kept_in es p ≡ Some e → entry_of (Some e') ≡ f (Some e)
+pub becomes : (es : List (ℕ × Entry)) (w p : ℕ) (e e' : Entry) (f : HomeEntry → HomeEntry) → kept_in es p ≡ Some e → entry_of (Some e') ≡ f (entry_of (Some e))
     → Becomes (home_of es w) (home_of (set_value (nat_eq p) es e') w) p f
 becomes es w p e e' f found step =
     record {
-      here = ap entry_of (at_changed es p p e e' found ∙ at_once (nat_eq p p) (let same : nat_eq p p ≡ true = grind arith in same)) ∙ step ∙ ap f (sym found);
+      here = ap entry_of (at_changed es p p e e' found ∙ at_once (nat_eq p p) (let same : nat_eq p p ≡ true = grind arith in same)) ∙ step ∙ ap (λ (o : Option Entry). f (entry_of o)) (sym found);
       beside = λ q apart. at_changed es p q e e' found ∙ not_here q (nat_eq q p) refl apart;
       watermark = refl;
     }
@@ -33,8 +33,8 @@ becomes es w p e e' f found step =
     not_here q false t apart = refl
 
 -- a page that has no entry
-pub becomes_none : (H : HomeState) (p : ℕ) (f : Option Entry → HomeEntry) → kept H p ≡ None → f None ≡ no_entry → Becomes H H p f
-becomes_none H p f absent none = record { here = ap entry_of absent ∙ sym (ap f absent ∙ none); beside = λ q apart. refl; watermark = refl }
+pub becomes_none : (H : HomeState) (p : ℕ) (f : HomeEntry → HomeEntry) → kept H p ≡ None → f no_entry ≡ no_entry → Becomes H H p f
+becomes_none H p f absent none = record { here = ap entry_of absent ∙ sym (ap (λ (o : Option Entry). f (entry_of o)) absent ∙ none); beside = λ q apart. refl; watermark = refl }
 
 nobody_less : (n : ℕ) → ◌≡◌ {A = ℕ → Bool} (put nobody n false) nobody
 nobody_less n = fun_ext (λ m. in_case (nat_eq m n))
@@ -46,7 +46,7 @@ nobody_less n = fun_ext (λ m. in_case (nat_eq m n))
 kicked_with : (ℕ → Bool) → HomeEntry
 kicked_with f = record no_entry { refs = f; due = f; latch = record { shared = f; exclusive = None } }
 
-pub kick_none : (n : ℕ) → kept_from n None ≡ no_entry
+pub kick_none : (n : ℕ) → kept_from n no_entry ≡ no_entry
 unfolding kicked_with
 kick_none n = ap kicked_with (nobody_less n)
 

@@ -51,13 +51,13 @@ not_before pages i p distinct at = below
         subst (λ (n : ℕ). is_among n pages p ≡ false) next (list_any_more (nat_eq p) pages j 0 inside ∙ rw (below j (omega arith), apart j (omega arith)) refl)
 
 -- the entries at the first i places have become f of what was kept of their pages, and the others stay
-pub record BecomeTo (before after : HomeState) (f : Option Entry → HomeEntry) (i : ℕ) : Type 0 where
+pub record BecomeTo (before after : HomeState) (f : HomeEntry → HomeEntry) (i : ℕ) : Type 0 where
   pub pages : pages_in after ≡ pages_in before
-  pub done : (q : ℕ) → is_among i (pages_in before) q ≡ true → entry_at after q ≡ f (kept before q)
+  pub done : (q : ℕ) → is_among i (pages_in before) q ≡ true → entry_at after q ≡ f (entry_at before q)
   pub rest : (q : ℕ) → is_among i (pages_in before) q ≡ false → kept after q ≡ kept before q
   pub watermark : after.watermark ≡ before.watermark
 
-pub become_none : (H : HomeState) (f : Option Entry → HomeEntry) → BecomeTo H H f 0
+pub become_none : (H : HomeState) (f : HomeEntry → HomeEntry) → BecomeTo H H f 0
 become_none H f = record {
   pages = refl;
   done = λ q h. absurd (true≢false (sym h ∙ no_pages (pages_in H) q));
@@ -65,7 +65,7 @@ become_none H f = record {
   watermark = refl;
 }
 
-pub become_more : (before mid after : HomeState) (f : Option Entry → HomeEntry) (i p : ℕ) → IsDistinct nat_eq (pages_in before) → BecomeTo before mid f i
+pub become_more : (before mid after : HomeState) (f : HomeEntry → HomeEntry) (i p : ℕ) → IsDistinct nat_eq (pages_in before) → BecomeTo before mid f i
     → slice_get (pages_in mid) i ≡ Some p → Becomes mid after p f → pages_in after ≡ pages_in mid → BecomeTo before after f (i + 1)
 become_more before mid after f i p distinct old at step same =
     record {
@@ -78,10 +78,10 @@ become_more before mid after f i p distinct old at step same =
     here : slice_get (pages_in before) i ≡ Some p
     here = subst (λ (ps : List ℕ). slice_get ps i ≡ Some p) old.pages at
 
-    on_page : (q : ℕ) (b : Bool) → nat_eq q p ≡ b → (is_among i (pages_in before) q || b) ≡ true → entry_at after q ≡ f (kept before q)
+    on_page : (q : ℕ) (b : Bool) → nat_eq q p ≡ b → (is_among i (pages_in before) q || b) ≡ true → entry_at after q ≡ f (entry_at before q)
     on_page q true t h =
         let is : q ≡ p = eqb-true q p t in
-        subst (λ (k : ℕ). entry_at after k ≡ f (kept before k)) (sym is) (step.here ∙ ap f (old.rest p (not_before (pages_in before) i p distinct here i (omega arith))))
+        subst (λ (k : ℕ). entry_at after k ≡ f (entry_at before k)) (sym is) (step.here ∙ ap (λ (o : Option Entry). f (entry_of o)) (old.rest p (not_before (pages_in before) i p distinct here i (omega arith))))
     on_page q false t h =
         let apart : q ≢ p = grind (arith, t) in
         ap entry_of (step.beside q apart) ∙ old.done q (on_left (is_among i (pages_in before) q) h)
@@ -103,30 +103,30 @@ no_page es i q all none =
     let count : length (keys_of es) ≡ length es = length-keys_of es in
     not_found es q (is_some-lookup (nat_eq q) es ∙ ap (λ (ps : List ℕ). list_any (nat_eq q) ps) (sym (take_all i (keys_of es) (omega (arith, count)))) ∙ none)
 
-pub become_all : (before after : HomeState) (f : Option Entry → HomeEntry) (i : ℕ) → f None ≡ no_entry → length before.entries ≤ i → BecomeTo before after f i → AllBecome before after f
+pub become_all : (before after : HomeState) (f : HomeEntry → HomeEntry) (i : ℕ) → f no_entry ≡ no_entry → length before.entries ≤ i → BecomeTo before after f i → AllBecome before after f
 become_all before after f i none all old =
     record {
       entries = fun_ext (λ p. by p (is_among i (pages_in before) p) refl);
       watermark = old.watermark;
     }
   where
-    by : (p : ℕ) (b : Bool) → is_among i (pages_in before) p ≡ b → entry_at after p ≡ f (kept before p)
+    by : (p : ℕ) (b : Bool) → is_among i (pages_in before) p ≡ b → entry_at after p ≡ f (entry_at before p)
     by p true h = old.done p h
     by p false h =
         let absent = no_page before.entries i p all h in
-        ap entry_of (old.rest p h ∙ absent) ∙ sym (ap f absent ∙ none)
+        ap entry_of (old.rest p h ∙ absent) ∙ sym (ap (λ (o : Option Entry). f (entry_of o)) absent ∙ none)
 
 -- the entries from place i on have become f of what was kept of their pages, and the others stay at their places
-pub record BecomeFrom (before after : HomeState) (f : Option Entry → HomeEntry) (i : ℕ) : Type 0 where
+pub record BecomeFrom (before after : HomeState) (f : HomeEntry → HomeEntry) (i : ℕ) : Type 0 where
   pub pages : (j : ℕ) → j < i → slice_get (pages_in after) j ≡ slice_get (pages_in before) j
-  pub done : (q : ℕ) → is_among i (pages_in before) q ≡ false → entry_at after q ≡ f (kept before q)
+  pub done : (q : ℕ) → is_among i (pages_in before) q ≡ false → entry_at after q ≡ f (entry_at before q)
   pub rest : (q : ℕ) → is_among i (pages_in before) q ≡ true → kept after q ≡ kept before q
   pub watermark : after.watermark ≡ before.watermark
 
-pub from_end : (H : HomeState) (f : Option Entry → HomeEntry) (i : ℕ) → f None ≡ no_entry → length H.entries ≤ i → BecomeFrom H H f i
+pub from_end : (H : HomeState) (f : HomeEntry → HomeEntry) (i : ℕ) → f no_entry ≡ no_entry → length H.entries ≤ i → BecomeFrom H H f i
 from_end H f i none all = record {
   pages = λ j h. refl;
-  done = λ q h. let absent = no_page H.entries i q all h in ap entry_of absent ∙ sym (ap f absent ∙ none);
+  done = λ q h. let absent = no_page H.entries i q all h in ap entry_of absent ∙ sym (ap (λ (o : Option Entry). f (entry_of o)) absent ∙ none);
   rest = λ q h. refl;
   watermark = refl;
 }
@@ -142,7 +142,7 @@ same_among (p ∷ ps) (r ∷ qs) (suc i) q same =
     rw (head, same_among ps qs i q (λ j less. same (suc j) (omega arith))) refl
 
 -- the last place that is not passed yet is one of the pages
-pub not_passed : (before after : HomeState) (f : Option Entry → HomeEntry) (i j : ℕ) → BecomeFrom before after f i → i ≤ length before.entries → j < i → j < length (pages_in after)
+pub not_passed : (before after : HomeState) (f : HomeEntry → HomeEntry) (i j : ℕ) → BecomeFrom before after f i → i ≤ length before.entries → j < i → j < length (pages_in after)
 not_passed before after f i j old bound less = by (slice_get (pages_in before) j) refl
   where
     by : (o : Option ℕ) → slice_get (pages_in before) j ≡ o → j < length (pages_in after)
@@ -152,7 +152,7 @@ not_passed before after f i j old bound less = by (slice_get (pages_in before) j
         absurd (let clash : None ≡ Some (get_or (pages_in before) j 0) = sym e ∙ some in cc)
     by (Some p) e = slice_get_within (pages_in after) j p (old.pages j less ∙ e)
 
-pub one_less : (before mid after : HomeState) (f : Option Entry → HomeEntry) (i p : ℕ) → IsDistinct nat_eq (pages_in before) → BecomeFrom before mid f (i + 1)
+pub one_less : (before mid after : HomeState) (f : HomeEntry → HomeEntry) (i p : ℕ) → IsDistinct nat_eq (pages_in before) → BecomeFrom before mid f (i + 1)
     → slice_get (pages_in mid) i ≡ Some p → Becomes mid after p f → KeepsBefore mid after p → BecomeFrom before after f i
 one_less before mid after f i p distinct old at step keeps =
     record {
@@ -171,11 +171,11 @@ one_less before mid after f i p distinct old at step keeps =
     not_so_far : (j : ℕ) → j < i → is_among (j + 1) (pages_in mid) p ≡ false
     not_so_far j less = same_among (pages_in mid) (pages_in before) (j + 1) p (λ k h. old.pages k (omega arith)) ∙ not_before (pages_in before) i p distinct here (j + 1) (omega arith)
 
-    on_page : (q : ℕ) (b : Bool) → nat_eq q p ≡ b → is_among i (pages_in before) q ≡ false → entry_at after q ≡ f (kept before q)
+    on_page : (q : ℕ) (b : Bool) → nat_eq q p ≡ b → is_among i (pages_in before) q ≡ false → entry_at after q ≡ f (entry_at before q)
     on_page q true t h =
         let is : q ≡ p = eqb-true q p t in
         let among : is_among (i + 1) (pages_in before) p ≡ true = one_more (pages_in before) i p p here ∙ rw (subst (λ (k : ℕ). nat_eq k p ≡ true) is t) (on_right (is_among i (pages_in before) p)) in
-        subst (λ (k : ℕ). entry_at after k ≡ f (kept before k)) (sym is) (step.here ∙ ap f (old.rest p among))
+        subst (λ (k : ℕ). entry_at after k ≡ f (entry_at before k)) (sym is) (step.here ∙ ap (λ (o : Option Entry). f (entry_of o)) (old.rest p among))
       where
         on_right : (b : Bool) → (b || true) ≡ true
         on_right true = refl
@@ -192,7 +192,7 @@ one_less before mid after f i p distinct old at step keeps =
         let apart : q ≢ p = grind (arith, t) in
         step.beside q apart ∙ old.rest q (one_more (pages_in before) i p q here ∙ rw h refl)
 
-pub to_start : (before after : HomeState) (f : Option Entry → HomeEntry) → BecomeFrom before after f 0 → entry_at after ≡ (λ p. f (kept before p))
+pub to_start : (before after : HomeState) (f : HomeEntry → HomeEntry) → BecomeFrom before after f 0 → entry_at after ≡ (λ p. f (entry_at before p))
 to_start before after f old = fun_ext (λ p. old.done p (no_pages (pages_in before) p))
 
 -- where page p was taken out, and the last page took its place

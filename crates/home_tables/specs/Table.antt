@@ -1,5 +1,5 @@
 -- Stated: the entry of a page, as the model of the home has it, and whether its page may be given away.
-use Rattle.std.specs.Prelude.{ℕ, ◌+◌, ◌*◌, Bool, true, false, ◌&&◌, List, [], ◌∷◌, nat_eq, Option, Some, None, option_map}
+use Rattle.std.specs.Prelude.{ℕ, ◌+◌, ◌*◌, ◌/◌, ◌%◌, Bool, true, false, ◌&&◌, List, [], ◌∷◌, nat_eq, Option, Some, None, option_map}
 use Rattle.rm_base.specs.declared.places.Addr.{Addr}
 use Rattle.home_model.specs.Numbered.{put}
 use Rattle.home_model.specs.Entry.{Entry as HomeEntry, no_entry}
@@ -12,6 +12,16 @@ use Rattle.home_tables.specs.declared.entry.Entry.{Entry}
 -- an address as one number, of a slab below 32 and a slot below 65,536
 abbrev pub address_number : Addr → ℕ
 address_number a = (a.incarnation * 32 + a.slab) * 65536 + a.slot
+
+-- the parts of an address that is one number
+abbrev pub slot_in : ℕ → ℕ
+slot_in x = x % 65536
+
+abbrev pub slab_in : ℕ → ℕ
+slab_in x = x / 65536 % 32
+
+abbrev pub incarnation_in : ℕ → ℕ
+incarnation_in x = x / 2097152
 
 -- the entry of a page, whether it is there or not
 abbrev pub entry_of : Option Entry → HomeEntry

@@ -237,7 +237,7 @@ impl Entry {
 
     /// The slab is lost, and the page's slot with it where it was there.
     pub fn lose(&mut self, slab: SlabId)
-        ensures model { entry_of (Some self.new) ≡ lost_on slab (Some self.old) }
+        ensures model { entry_of (Some self.new) ≡ lost_on slab (entry_of (Some self.old)) }
         ensures slot { self.new.addr ≡ (if is_on slab self.old.addr then None else self.old.addr) }
         ensures nodes { has self.new.due ≡ has self.old.due }
         ensures idle { is_idle self.new ≡ is_idle self.old }
