@@ -1,0 +1,6 @@
+pub mod Acting
+pub mod Example
+pub mod Latches
+pub mod Replies
+pub mod Terms
+pub mod Works
