@@ -1,5 +1,5 @@
 -- The example.
-use Rattle.std.proofs.Common.{◌≡◌, ℕ, [], ◌∷◌, refl}
+use Rattle.std.proofs.Common.{[], ◌∷◌, refl}
 use Rattle.sql_database.specs.declared.replies.SqlReply.TheVariants as reply
 use Rattle.statement_work.specs.Example.{ExampleWorks}
 

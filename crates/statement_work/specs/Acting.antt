@@ -3,7 +3,7 @@ use Rattle.std.specs.Prelude.{◌≡◌, ℕ, Bool, true, false, IsSome}
 use Rattle.redo_record.specs.declared.plans.Plan.{Plan}
 use Rattle.sql_database.specs.declared.replies.SqlReply.{SqlReply}
 use Rattle.sql_database.specs.declared.replies.SqlReply.TheVariants as reply
-use Rattle.question_tree.specs.Questions.{Ask, tells, asks, stops, wanted, after}
+use Rattle.question_tree.specs.Questions.{tells, asks, stops, wanted, after}
 use Rattle.statement_work.specs.declared.acts.Job.{Job}
 use Rattle.statement_work.specs.declared.acts.Obstacle.{Obstacle}
 use Rattle.statement_work.specs.declared.acts.Obstacle.TheVariants as obstacle
@@ -13,7 +13,7 @@ use Rattle.statement_work.specs.declared.acts.Deed.TheVariants as deed
 use Rattle.statement_work.specs.declared.acts.Act.{Act}
 use Rattle.statement_work.specs.declared.acts.Act.TheVariants as act
 use Rattle.statement_work.specs.Terms.{Terms}
-use Rattle.statement_work.specs.Works.{Wish, Fetches, FetchesFixed, Releases, Runs, Stamps, Appends, Input, Handed, Stamped, Made, Told, Found, Replied, Rested, Again, WorkOf, Work, AskedFor}
+use Rattle.statement_work.specs.Works.{Wish, Fetches, FetchesFixed, FetchesSure, claimed, Releases, Runs, Stamps, Appends, Handed, Stamped, Made, Told, Found, Replied, Rested, Again, WorkOf, Work, AskedFor}
 
 -- what may be given: a statement or an undoing at any time, else what the work asks for
 abbrev pub Suits : {A F : Type 0} → WorkOf A F → Given → Type 0
@@ -29,6 +29,7 @@ Suits w (given.Met o) = IsSome (wanted w)
 abbrev pub is_calm : {A : Type 0} → Wish A → Bool
 is_calm (Fetches calm q) = calm
 is_calm (FetchesFixed calm p) = calm
+is_calm (FetchesSure calm c) = calm
 is_calm (Releases p) = true
 is_calm (Runs calm a) = calm
 is_calm Stamps = true
@@ -88,6 +89,7 @@ Tells t (Again session) x = ⊥
 abbrev pub Grants : (t : Terms) → Wish t.Aim → Act → Type 0
 Grants t (Fetches calm q) x = x ≡ act.Do (deed.Fetch q)
 Grants t (FetchesFixed calm p) x = x ≡ act.Do (deed.FetchFixed p)
+Grants t (FetchesSure calm c) x = x ≡ act.Do (deed.FetchSure (claimed c))
 Grants t (Releases p) x = x ≡ act.Do (deed.Release p)
 Grants t (Runs calm a) x = (plan : Plan) × (x ≡ act.Do (deed.Run plan)) × t.Serves a plan
 Grants t Stamps x = x ≡ act.Do deed.Stamp

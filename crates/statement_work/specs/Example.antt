@@ -3,7 +3,7 @@
 use Rattle.std.specs.Prelude.{◌≡◌, ℕ, false, true, [], ◌∷◌, Some}
 use Rattle.page_image.specs.Image.{Image, unmade}
 use Rattle.sql_database.specs.declared.replies.SqlReply.TheVariants as reply
-use Rattle.question_tree.specs.Questions.{tells, asks, stops, wanted, after}
+use Rattle.question_tree.specs.Questions.{tells, asks, wanted, after}
 use Rattle.range_reader.specs.declared.fetch.Fetch.TheVariants as fetch
 use Rattle.statement_work.specs.declared.acts.Obstacle.TheVariants as obstacle
 use Rattle.statement_work.specs.declared.acts.FixedPage.TheVariants as fixed

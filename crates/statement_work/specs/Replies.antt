@@ -1,7 +1,7 @@
 -- Stated: that a statement ends in a reply, and that a reply is one to what was given for it.
 use Rattle.std.specs.Prelude.{◌≡◌, List}
 use Rattle.sql_database.specs.declared.replies.SqlReply.{SqlReply}
-use Rattle.question_tree.specs.Questions.{Ask, tells, asks, stops, Gives}
+use Rattle.question_tree.specs.Questions.{tells, asks, stops, Gives}
 use Rattle.statement_work.specs.Terms.{Terms}
 use Rattle.statement_work.specs.Works.{Input, Told, Found, Replied, Rested, Again, WorkOf, Work, Fits}
 

@@ -1,22 +1,32 @@
 -- Stated: the work of a worker: what it wishes for, one after the other, and what it tells then.
-use Rattle.std.specs.Prelude.{◌≡◌, ℕ, Bool, List, [], ◌∷◌}
+use Rattle.std.specs.Prelude.{◌≡◌, ℕ, Bool, List, [], ◌∷◌, ◌++◌}
 use Rattle.rm_base.specs.declared.limits.TheConstants.{META_PAGE_ID, SLOTS_PAGE_ID}
 use Rattle.page_image.specs.Image.{Image, unmade}
 use Rattle.page_image.specs.declared.kind.Kind.TheVariants as kind
 use Rattle.sql_database.specs.declared.replies.SqlReply.{SqlReply}
 use Rattle.question_tree.specs.Questions.{Ask, tells, asks, stops}
+use Rattle.bplus_tree.specs.Walk.{IsToRead}
+use Rattle.tree_change.specs.Way.{IsWayTo}
 use Rattle.range_reader.specs.declared.fetch.Fetch.{Fetch}
+use Rattle.range_reader.specs.declared.fetch.Fetch.TheVariants as fetch
 use Rattle.range_reader.specs.Finding as finding
 use Rattle.statement_work.specs.declared.acts.FixedPage.{FixedPage}
 use Rattle.statement_work.specs.declared.acts.FixedPage.TheVariants as fixed
 use Rattle.statement_work.specs.Terms.{Terms}
 
--- A page of a tree, of stamps or of undo items; a page at a fixed place; that the latch on a page is
--- released; that a plan for an aim is run; the stamp of a snapshot; that the log is appended. A calm wish
+-- what a work takes a page for: the next one on the way to a key, behind those that were read, or an undo
+-- page
+pub data Claim : Type 0 where
+  OnWay : (key : List ℕ) → (path : List Image) → (page : ℕ) → Claim
+  UndoPage : ℕ → Claim
+
+-- A page of a tree, of stamps or of undo items; a page at a fixed place; a page that has to be what the work
+-- takes it for; that the latch on a page is released; that a plan for an aim is run; the stamp of a snapshot; that the log is appended. A calm wish
 -- waits where the pool is full.
 pub data Wish (A : Type 0) : Type 0 where
   Fetches : (calm : Bool) → Fetch → Wish A
   FetchesFixed : (calm : Bool) → FixedPage → Wish A
+  FetchesSure : (calm : Bool) → Claim → Wish A
   Releases : ℕ → Wish A
   Runs : (calm : Bool) → A → Wish A
   Stamps : Wish A
@@ -48,6 +58,21 @@ abbrev pub IsFixed : FixedPage → Image → Type 0
 IsFixed fixed.Meta im = (im.page ≡ META_PAGE_ID) × (im.kind ≡ kind.Meta)
 IsFixed fixed.Slots im = (im.page ≡ SLOTS_PAGE_ID) × (im.kind ≡ kind.Slots)
 
+-- with a leaf, the pages that were read are the way from a root to the leaf of the key, in a tree that stands
+abbrev pub Holds : Claim → Image → Type 0
+Holds (OnWay key path page) im =
+    (im.page ≡ page) × IsToRead im × (im.kind ≡ kind.Leaf → IsWayTo key (path ++ im ∷ []))
+Holds (UndoPage page) im = (im.page ≡ page) × (im.kind ≡ kind.Undo)
+
+-- a way begins with a root, and goes on with children
+abbrev pub step_to : List Image → ℕ → Fetch
+step_to [] page = fetch.Root page
+step_to (im ∷ path) page = fetch.Child page
+
+abbrev pub claimed : Claim → Fetch
+claimed (OnWay key path page) = step_to path page
+claimed (UndoPage page) = fetch.Undo page
+
 abbrev pub IsHanded : (Image → Type 0) → Input → Type 0
 IsHanded Fit (Handed im) = Fit im
 IsHanded Fit (Stamped n) = ⊥
@@ -66,6 +91,7 @@ IsMade Made = Unit {0}
 abbrev pub Fits : {A : Type 0} → Wish A → Input → Type 0
 Fits (Fetches calm q) x = IsHanded (finding.Fits q) x
 Fits (FetchesFixed calm p) x = IsHanded (IsFixed p) x
+Fits (FetchesSure calm c) x = IsHanded (Holds c) x
 Fits (Releases p) x = IsMade x
 Fits (Runs calm a) x = IsMade x
 Fits Stamps x = IsStamped x

@@ -59,6 +59,8 @@ pub enum FixedPage {
 pub enum Deed {
     Fetch(Fetch),
     FetchFixed(FixedPage),
+    /// A page that has to be what the work takes it for.
+    FetchSure(Fetch),
     Release(PageId),
     Run(Plan),
     Stamp,

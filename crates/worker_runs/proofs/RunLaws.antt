@@ -1,10 +1,10 @@
 -- Turns and runs of a worker.
-use Rattle.std.proofs.Common.{◌≡◌, ◌++◌, append-nil, append_assoc, ℕ, true, false, List, [], ◌∷◌, Option, Some, None, IsSome, refl, sym, ◌∙◌, ap, subst}
-use Rattle.std.specs.Prelude.{option_to_list}
+use Rattle.std.proofs.Common.{◌≡◌, inl, inr, ◌++◌, append-nil, append_assoc, ℕ, List, [], ◌∷◌, Option, Some, None, IsSome, refl, sym, ◌∙◌, ap, subst}
+use Rattle.std.specs.Prelude.{option_to_list, IfSome, Result, Ok, Err, IfOk}
 use Rattle.page_image.specs.Image.{Image}
 use Rattle.redo_record.specs.declared.plans.Plan.{Plan}
 use Rattle.sql_database.specs.declared.replies.SqlReply.{SqlReply}
-use Rattle.question_tree.specs.Questions.{Ask, tells, asks, stops, wanted, after, Gives, Leads}
+use Rattle.question_tree.specs.Questions.{tells, asks, stops, wanted, after, Gives, Leads}
 use Rattle.question_tree.proofs.QuestionLaws.{one_more, all_given}
 use Rattle.range_reader.specs.declared.fetch.Fetch.{Fetch}
 use Rattle.range_reader.specs.Finding as finding
@@ -14,18 +14,13 @@ use Rattle.statement_work.specs.declared.acts.Deed.TheVariants as deed
 use Rattle.statement_work.specs.declared.acts.Act.{Act}
 use Rattle.statement_work.specs.declared.acts.Act.TheVariants as act
 use Rattle.statement_work.specs.Terms.{Terms}
-use Rattle.statement_work.specs.Works.{Wish, Fetches, FetchesFixed, Releases, Runs, Stamps, Appends, Input, Handed, Stamped, Made, Told, Found, Replied, Rested, Again, WorkOf, Work, IsFixed, IsHanded, IsStamped, IsMade, Fits, AskedFor, uses}
-use Rattle.statement_work.specs.Acting.{Does, Goes, Grants, Tells, anew, anew_by}
+use Rattle.statement_work.specs.Works.{Wish, Fetches, FetchesFixed, FetchesSure, claimed, Releases, Runs, Stamps, Appends, Input, Handed, Stamped, Made, Told, Found, Replied, Rested, Again, WorkOf, Work, IsFixed, IsHanded, IsStamped, IsMade, Fits, AskedFor, uses}
+use Rattle.statement_work.proofs.WorkLaws.{do_reply, do_rest, ends_after, not_anew, reply_grants, rest_grants}
+use Rattle.statement_work.specs.Acting.{Does, Goes, Grants, Tells, anew}
 use Rattle.statement_work.specs.Replies.{IsReply, EndsInReply, Allows, IsReplyOver}
-use Rattle.worker_runs.specs.Runs.{IsAskedFor, IsNext, IsTurn, IsTold, IsTurnOver, given, lost, IsRun, IsRunOver, IsAnswered}
+use Rattle.worker_runs.specs.Runs.{IsAskedFor, IsNext, IsTurn, IsTold, IsTurnOver, IsRun, IsRunOver, IsAnswered}
 
 -- ---- what an act says of the work
-
-do_reply : (d : Deed) (r : SqlReply) → act.Do d ≡ act.Reply r → ⊥
-do_reply d r e = cc
-
-do_rest : (d : Deed) → act.Do d ≡ act.Rest → ⊥
-do_rest d e = cc
 
 same_deed : {c d : Deed} → act.Do c ≡ act.Do d → c ≡ d
 same_deed e = cc
@@ -37,7 +32,7 @@ pub record Asks (t : Terms) (w : Work t) (d : Deed) : Type 0 where
   pub is : w ≡ asks wish next
   pub grants : Grants t wish (act.Do d)
 
-does_deed : (t : Terms) (a : Told t.Finding) (d : Deed) → Tells t a (act.Do d) → ⊥
+pub does_deed : (t : Terms) (a : Told t.Finding) (d : Deed) → Tells t a (act.Do d) → ⊥
 does_deed t (Found a) d (r, e, f) = do_reply d r e
 does_deed t (Replied r) d e = do_reply d r e
 does_deed t Rested d e = do_rest d e
@@ -52,6 +47,7 @@ asks_for t stops d h = absurd h
 abbrev pub Answers : Deed → Input → Type 0
 Answers (deed.Fetch q) x = IsHanded (finding.Fits q) x
 Answers (deed.FetchFixed p) x = IsHanded (IsFixed p) x
+Answers (deed.FetchSure q) x = ⊥
 Answers (deed.Release p) x = IsMade x
 Answers (deed.Run plan) x = IsMade x
 Answers deed.Stamp x = IsStamped x
@@ -63,6 +59,7 @@ fits_by d e x same h = let P : Deed → Type 0 = λ c. Answers c x in subst P (s
 fits_wish : (t : Terms) (q : Wish t.Aim) (d : Deed) (x : Input) → Grants t q (act.Do d) → Answers d x → Fits q x
 fits_wish t (Fetches calm q) d x e h = fits_by d (deed.Fetch q) x e h
 fits_wish t (FetchesFixed calm p) d x e h = fits_by d (deed.FetchFixed p) x e h
+fits_wish t (FetchesSure calm c) d x e h = absurd (fits_by d (deed.FetchSure (claimed c)) x e h)
 fits_wish t (Releases p) d x e h = fits_by d (deed.Release p) x e h
 fits_wish t (Runs calm a) d x (plan, e, s) h = fits_by d (deed.Run plan) x e h
 fits_wish t Stamps d x e h = fits_by d deed.Stamp x e h
@@ -96,34 +93,46 @@ stamp_asked t w n h = asked t w deed.Stamp (Stamped n) h tt
 
 pub told_turn : (t : Terms) (undoes : ℕ → Work t) (w new : Work t) (o : Option Image) (b : Act) (before later : List Image)
     → IsTold t undoes w o b new → later ≡ before ++ option_to_list o → IsTurnOver t undoes w before b new later
-told_turn t undoes w new None b before later h e = lost h (e ∙ append-nil before)
-told_turn t undoes w new (Some im) b before later h e = given (Handed im) h e
+told_turn t undoes w new None b before later h e = inr (h, e ∙ append-nil before)
+told_turn t undoes w new (Some im) b before later h e = inl (Handed im, h, e)
 
-pub made_turn : (t : Terms) (undoes : ℕ → Work t) (w new : Work t) (b : Act) (before later : List Image)
+pub told_ok : {E : Type 0} (t : Terms) (undoes : ℕ → Work t) (w new : Work t) (o : Option Image) (r : Result Act E) (before later : List Image)
+    → IfOk r (λ b. IsTold t undoes w o b new) → later ≡ before ++ option_to_list o → IfOk r (λ b. IsTurnOver t undoes w before b new later)
+told_ok t undoes w new o (Ok b) before later h e = told_turn t undoes w new o b before later h e
+told_ok t undoes w new o (Err x) before later h e = tt
+
+made_turn : (t : Terms) (undoes : ℕ → Work t) (w new : Work t) (b : Act) (before later : List Image)
     → AskedFor w Made → Does t (anew undoes (after w Made)) b → Goes (anew undoes (after w Made)) new → later ≡ before
     → IsTurnOver t undoes w before b new later
-made_turn t undoes w new b before later a d g e = given Made (a, (d, g)) (e ∙ sym (append-nil before))
+made_turn t undoes w new b before later a d g e = inl (Made, (a, (d, g)), e ∙ sym (append-nil before))
 
-pub stamp_turn : (t : Terms) (undoes : ℕ → Work t) (w new : Work t) (n : ℕ) (b : Act) (before later : List Image)
-    → AskedFor w (Stamped n) → Does t (anew undoes (after w (Stamped n))) b → Goes (anew undoes (after w (Stamped n))) new → later ≡ before
+pub release_turn : (t : Terms) (undoes : ℕ → Work t) (w new : Work t) (p : ℕ) (b : Act) (before later : List Image) → Does t w (act.Do (deed.Release p))
+    → Does t (anew undoes (after w Made)) b → Goes (anew undoes (after w Made)) new → later ≡ before → IsTurnOver t undoes w before b new later
+release_turn t undoes w new p b before later h d g e = made_turn t undoes w new b before later (release_asked t w p h) d g e
+
+pub run_turn : (t : Terms) (undoes : ℕ → Work t) (w new : Work t) (plan : Plan) (b : Act) (before later : List Image) → Does t w (act.Do (deed.Run plan))
+    → Does t (anew undoes (after w Made)) b → Goes (anew undoes (after w Made)) new → later ≡ before → IsTurnOver t undoes w before b new later
+run_turn t undoes w new plan b before later h d g e = made_turn t undoes w new b before later (run_asked t w plan h) d g e
+
+pub append_turn : (t : Terms) (undoes : ℕ → Work t) (w new : Work t) (b : Act) (before later : List Image) → Does t w (act.Do deed.Append)
+    → Does t (anew undoes (after w Made)) b → Goes (anew undoes (after w Made)) new → later ≡ before → IsTurnOver t undoes w before b new later
+append_turn t undoes w new b before later h d g e = made_turn t undoes w new b before later (append_asked t w h) d g e
+
+pub stamp_turn : (t : Terms) (undoes : ℕ → Work t) (w new : Work t) (n : ℕ) (b : Act) (before later : List Image) → Does t w (act.Do deed.Stamp)
+    → Does t (anew undoes (after w (Stamped n))) b → Goes (anew undoes (after w (Stamped n))) new → later ≡ before
     → IsTurnOver t undoes w before b new later
-stamp_turn t undoes w new n b before later a d g e = given (Stamped n) (a, (d, g)) (e ∙ sym (append-nil before))
+stamp_turn t undoes w new n b before later h d g e = inl (Stamped n, (stamp_asked t w n h, (d, g)), e ∙ sym (append-nil before))
+
+-- what may be handed out for a fetch was asked for
+pub pages_asked : (t : Terms) (w : Work t) (q : Fetch) (o : Option Image) → Does t w (act.Do (deed.Fetch q)) → IfSome o (finding.Fits q) → IfSome o (IsAskedFor w)
+pages_asked t w q None h f = f
+pages_asked t w q (Some im) h f = page_asked t w q im h f
+
+pub fixed_pages_asked : (t : Terms) (w : Work t) (p : FixedPage) (o : Option Image) → Does t w (act.Do (deed.FetchFixed p)) → IfSome o (IsFixed p) → IfSome o (IsAskedFor w)
+fixed_pages_asked t w p None h f = f
+fixed_pages_asked t w p (Some im) h f = fixed_asked t w p im h f
 
 -- ---- runs
-
--- a work that ends in a reply never begins anew
-pub ends_after : {A F : Type 0} (w : WorkOf A F) (x : Input) → EndsInReply w → EndsInReply (after w x)
-ends_after (tells a) x h = h
-ends_after (asks q k) x h = h x
-ends_after stops x h = h
-
-pub not_anew : {A F : Type 0} (undoes : ℕ → WorkOf A F) (w : WorkOf A F) → EndsInReply w → anew undoes w ≡ w
-not_anew undoes (tells (Found a)) h = refl
-not_anew undoes (tells (Replied r)) h = refl
-not_anew undoes (tells Rested) h = absurd h
-not_anew undoes (tells (Again session)) h = absurd h
-not_anew undoes (asks q k) h = refl
-not_anew undoes stops h = refl
 
 asked_more : {A F : Type 0} (w m : WorkOf A F) (xs : List Input) (x : Input) → Leads Fits w xs m → AskedFor m x → Leads Fits w (xs ++ x ∷ []) (after m x)
 asked_more w (tells a) xs x leads h = absurd h
@@ -177,14 +186,6 @@ allows t Finds xs (Replied s) r e finds = same_reply e
 allows t Finds xs Rested r e finds = reply_rest r e
 allows t Finds xs (Again session) r e finds = e
 
-reply_grants : (t : Terms) (q : Wish t.Aim) (r : SqlReply) → Grants t q (act.Reply r) → ⊥
-reply_grants t (Fetches calm q) r e = do_reply _ r (sym e)
-reply_grants t (FetchesFixed calm p) r e = do_reply _ r (sym e)
-reply_grants t (Releases p) r e = do_reply _ r (sym e)
-reply_grants t (Runs calm a) r (plan, e, s) = do_reply _ r (sym e)
-reply_grants t Stamps r e = do_reply _ r (sym e)
-reply_grants t Appends r e = do_reply _ r (sym e)
-
 -- a reply is one to what was given
 pub ends : (t : Terms) (Finds : List Input → t.Finding → Type 0) (w now : Work t) (xs : List Input) (r : SqlReply)
     → ((b : t.Finding) → Gives Fits w xs (Found b) → Finds xs b) → IsRun t w xs (act.Reply r) now → IsReplyOver t w Finds xs r
@@ -194,14 +195,6 @@ ends t Finds w now xs r right (tells a, leads, f, h, g) =
     (a, all, allows t Finds xs a r h (λ b e. right b (subst P e all)))
 ends t Finds w now xs r right (asks q k, leads, f, h, g) = absurd (reply_grants t q r h)
 ends t Finds w now xs r right (stops, leads, f, h, g) = absurd h
-
-rest_grants : (t : Terms) (q : Wish t.Aim) → Grants t q act.Rest → ⊥
-rest_grants t (Fetches calm q) e = do_rest _ (sym e)
-rest_grants t (FetchesFixed calm p) e = do_rest _ (sym e)
-rest_grants t (Releases p) e = do_rest _ (sym e)
-rest_grants t (Runs calm a) (plan, e, s) = do_rest _ (sym e)
-rest_grants t Stamps e = do_rest _ (sym e)
-rest_grants t Appends e = do_rest _ (sym e)
 
 rest_tells : (t : Terms) (a : Told t.Finding) → IsReply a → Tells t a act.Rest → ⊥
 rest_tells t (Found a) f (r, e, h) = reply_rest r (sym e)
@@ -231,12 +224,12 @@ over_does t w now d before later (xs, run, used) = does t w now xs d run
 
 pub over_goes_on : (t : Terms) (undoes : ℕ → Work t) (w now new : Work t) (d : Deed) (b : Act) (before later last : List Image)
     → IsRunOver t w before (act.Do d) now later → IsTurnOver t undoes now later b new last → IsRunOver t w before b new last
-over_goes_on t undoes w now new d b before later last (xs, run, used) (given x turn more) = (
-      xs ++ x ∷ [],
-      goes_on t undoes w now new xs x d b run turn,
-      more ∙ (ap (λ (us : List Image). us ++ uses (x ∷ [])) used ∙ (append_assoc before (uses xs) (uses (x ∷ [])) ∙ ap (λ (us : List Image). before ++ us) (sym (uses_append xs (x ∷ []))))),
-    )
-over_goes_on t undoes w now new d b before later last (xs, run, used) (lost next more) =
+over_goes_on t undoes w now new d b before later last (xs, run, used) (inl (x, turn, more)) = (
+  xs ++ x ∷ [],
+  goes_on t undoes w now new xs x d b run turn,
+  more ∙ (ap (λ (us : List Image). us ++ uses (x ∷ [])) used ∙ (append_assoc before (uses xs) (uses (x ∷ [])) ∙ ap (λ (us : List Image). before ++ us) (sym (uses_append xs (x ∷ []))))),
+)
+over_goes_on t undoes w now new d b before later last (xs, run, used) (inr (next, more)) =
     (xs, stays t w now new xs d b run next, more ∙ used)
 
 pub over_ends : (t : Terms) (Finds : List Input → t.Finding → Type 0) (w now : Work t) (r : SqlReply) (before later : List Image)

@@ -1,5 +1,5 @@
 -- Stated: the turns of a worker, its runs, and what a run comes to.
-use Rattle.std.specs.Prelude.{◌≡◌, ◌++◌, ℕ, List, [], ◌∷◌, Option, Some, None}
+use Rattle.std.specs.Prelude.{◌≡◌, ◌⊎◌, ◌++◌, ℕ, List, [], ◌∷◌, Option, Some, None}
 use Rattle.page_image.specs.Image.{Image}
 use Rattle.sql_database.specs.declared.replies.SqlReply.{SqlReply}
 use Rattle.question_tree.specs.Questions.{after, Leads}
@@ -27,11 +27,11 @@ IsTold t undoes w (Some im) act new = IsTurn t undoes (Handed im) w act new
 
 -- a turn, with the images that were handed out before it and with it; where a try was lost, the worker
 -- goes on where it stands
-pub data IsTurnOver (t : Terms) (undoes : ℕ → Work t) (w : Work t) (before : List Image) (act : Act)
-    (new : Work t) (later : List Image) : Type 0 where
-  given : (x : Input) → IsTurn t undoes x w act new → later ≡ before ++ uses (x ∷ [])
-      → IsTurnOver t undoes w before act new later
-  lost : IsNext t w act new → later ≡ before → IsTurnOver t undoes w before act new later
+abbrev pub IsTurnOver : (t : Terms) → (ℕ → Work t) → Work t → List Image → Act → Work t → List Image
+    → Type 0
+IsTurnOver t undoes w before act new later =
+    ((x : Input) × IsTurn t undoes x w act new × (later ≡ before ++ uses (x ∷ [])))
+    ⊎ (IsNext t w act new × (later ≡ before))
 
 -- a run up to now: what was given so far leads to a work, of which the act and the worker tell
 abbrev pub IsRun : (t : Terms) → Work t → List Input → Act → Work t → Type 0

@@ -1,10 +1,12 @@
 //! Turns over pages that change.
-ghost use Rattle.std.specs.Prelude.{◌≡◌, ◌++◌, [], ◌∷◌, List, option_to_list, IfOk, IfSome, OnOk};
+ghost use Rattle.std.specs.Prelude.{◌≡◌, ◌++◌, [], ◌∷◌, List, option_to_list, IsSome, IfOk, IfSome, OnOk};
 ghost use Rattle.page_image.specs.Image.{Image};
+ghost use Rattle.question_tree.specs.Questions.{wanted};
 ghost use Rattle.range_reader.specs.Finding.{Fits};
 ghost use Rattle.statement_work.specs.Works.{Input, IsFixed, uses};
 ghost use Rattle.statement_work.specs.Acting.{Does};
 ghost use Rattle.statement_work.specs.declared.acts.Act.TheVariants as act;
+ghost use Rattle.statement_work.specs.declared.acts.Deed.TheVariants as deed;
 ghost use Rattle.worker_runs.specs.Runs.{IsAnswered, IsAskedFor, IsTold, IsTurnOver};
 
 use page_image::Page;
@@ -15,7 +17,8 @@ use sql_database::SqlReply;
 use statement_work::{Act, Deed, FixedPage, Given, Job, Obstacle, Worker};
 use std::alloc::Global;
 
-/// Where pages come from. What a page holds may change from one call to the next.
+/// Where pages come from. What a page holds may change from one call to the next, so a page that has to be what
+/// a work takes it for is never had from it.
 pub trait Pool {
     /// The images that were handed out, in their order.
     ghost handed: { Self → List Image };
@@ -44,7 +47,8 @@ pub trait Pool {
 
 /// The worker is told of a page that was handed out, or that the try was lost.
 fn tell<W: Worker>(alloc: Global, worker: &mut W, page: Option<Page>) -> Result<Act, WantOfMemory>
-    requires { IfSome page (IsAskedFor (W.work worker.old)) }
+    requires asks { IsSome (wanted (W.work worker.old)) }
+    requires asked { IfSome page (IsAskedFor (W.work worker.old)) }
     ensures { IfOk result (λ next. IsTold W.terms W.undoes (W.work worker.old) page next
         (W.work worker.new)) }
 {
@@ -54,8 +58,23 @@ fn tell<W: Worker>(alloc: Global, worker: &mut W, page: Option<Page>) -> Result<
     }
 }
 
+#[tactic(auto, using(crate::proofs::RunLaws::wants, crate::proofs::RunLaws::fixed_pages_asked))]
+fn fixed_turn<W: Worker, P: Pool>(
+    alloc: Global,
+    worker: &mut W,
+    pool: &mut P,
+    place: FixedPage,
+) -> Result<Act, WantOfMemory>
+    requires does { Does W.terms (W.work worker.old) (act.Do (deed.FetchFixed place)) }
+    ensures turn { IfOk result (λ next. IsTurnOver W.terms W.undoes (W.work worker.old)
+        (P.handed pool.old) next (W.work worker.new) (P.handed pool.new)) }
+{
+    let page = pool.fetch_fixed(alloc, place)?;
+    tell(alloc, worker, page)
+}
+
 /// One turn: the act is made, and the worker is told of it.
-#[tactic(auto, using(crate::proofs::RunLaws::page_asked, crate::proofs::RunLaws::fixed_asked, crate::proofs::RunLaws::release_asked, crate::proofs::RunLaws::run_asked, crate::proofs::RunLaws::append_asked, crate::proofs::RunLaws::stamp_asked, crate::proofs::RunLaws::told_turn, crate::proofs::RunLaws::made_turn, crate::proofs::RunLaws::stamp_turn))]
+#[tactic(auto, using(crate::proofs::RunLaws::wants, crate::proofs::RunLaws::pages_asked, crate::proofs::RunLaws::release_asked, crate::proofs::RunLaws::run_asked, crate::proofs::RunLaws::append_asked, crate::proofs::RunLaws::stamp_asked, crate::proofs::RunLaws::told_turn, crate::proofs::RunLaws::release_turn, crate::proofs::RunLaws::run_turn, crate::proofs::RunLaws::append_turn, crate::proofs::RunLaws::stamp_turn))]
 fn turn<W: Worker, P: Pool>(
     alloc: Global,
     worker: &mut W,
@@ -71,10 +90,8 @@ fn turn<W: Worker, P: Pool>(
             let page = pool.fetch(alloc, fetch)?;
             tell(alloc, worker, page)
         }
-        Deed::FetchFixed(place) => {
-            let page = pool.fetch_fixed(alloc, place)?;
-            tell(alloc, worker, page)
-        }
+        Deed::FetchFixed(place) => fixed_turn(alloc, worker, pool, place),
+        Deed::FetchSure(_) => tell(alloc, worker, None),
         Deed::Release(page) => {
             pool.release(page);
             worker.next(alloc, Given::Ran)

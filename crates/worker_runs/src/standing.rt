@@ -1,11 +1,12 @@
 //! Turns over pages that stand still.
-ghost use Rattle.std.specs.Prelude.{◌≡◌, List, IfOk};
+ghost use Rattle.std.specs.Prelude.{◌≡◌, List, IfOk, false};
 ghost use Rattle.range_reader.specs.Finding.{Fits};
 ghost use Rattle.statement_work.specs.Works.{Input, IsFixed};
 ghost use Rattle.statement_work.specs.Acting.{Does};
 ghost use Rattle.statement_work.specs.Replies.{IsReplyOver};
 ghost use Rattle.statement_work.specs.declared.acts.Act.TheVariants as act;
-ghost use Rattle.worker_runs.specs.Standing.{Standing, deed_input};
+ghost use Rattle.statement_work.specs.Plain.{ClaimsNothing};
+ghost use Rattle.worker_runs.specs.Standing.{Standing, deed_input, is_sure};
 ghost use Rattle.worker_runs.specs.Runs.{IsTurn};
 
 use page_image::Page;
@@ -40,6 +41,7 @@ fn turn<W: Worker, P: StillPages>(
     deed: Deed,
 ) -> Result<Act, WantOfMemory>
     requires does { Does W.terms (W.work worker.old) (act.Do deed) }
+    requires plain { is_sure deed ≡ false }
     ensures turn { IfOk result (λ next. IsTurn W.terms W.undoes (deed_input (P.now pages.now) deed)
         (W.work worker.old) next (W.work worker.new)) }
 {
@@ -52,21 +54,23 @@ fn turn<W: Worker, P: StillPages>(
             let page = pages.fetch_fixed(alloc, place)?;
             worker.next(alloc, Given::Page(&page))
         }
+        Deed::FetchSure(_fetch) => unreachable!(),
         Deed::Stamp => worker.next(alloc, Given::Stamp(pages.stamp())),
-        Deed::Release(_) => worker.next(alloc, Given::Ran),
-        Deed::Run(_) => worker.next(alloc, Given::Ran),
+        Deed::Release(_page) => worker.next(alloc, Given::Ran),
+        Deed::Run(_plan) => worker.next(alloc, Given::Ran),
         Deed::Append => worker.next(alloc, Given::Ran),
     }
 }
 
-/// Serves a statement to its end: each turn leaves one act less.
-#[tactic(auto, using(crate::proofs::RunLaws::begins, crate::proofs::RunLaws::does))]
+/// Serves a statement that takes no page for more than it is to its end: each turn leaves one act less.
+#[tactic(auto, using(crate::proofs::RunLaws::begins, crate::proofs::RunLaws::does, crate::proofs::StandingLaws::not_sure))]
 pub fn serve_to_end<W: Worker, P: StillPages>(
     alloc: Global,
     worker: &mut W,
     pages: &P,
     job: Job,
 ) -> Result<SqlReply, WantOfMemory>
+    requires plain { ClaimsNothing (W.serves job) }
     ensures { IfOk result (λ r. (xs : List Input)
         × IsReplyOver W.terms (W.serves job) (W.finds job) xs r) }
 {

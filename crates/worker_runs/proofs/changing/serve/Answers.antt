@@ -1,7 +1,7 @@
 use Rattle.std.proofs.Common.{subst}
 use Rattle.statement_work.specs.declared.acts.Act.{Act}
 use Rattle.worker_runs.specs.Runs.{IsRunOver}
-use Rattle.worker_runs.proofs.RunLaws.{over_begins, over_ends, over_goes_on}
+use Rattle.worker_runs.proofs.RunLaws.{over_ends, over_goes_on}
 use Rattle.worker_runs.proofs.changing.serve.Goals as goal
 
 pub returns-in-Reply : goal.returns-in-Reply
