@@ -7,13 +7,11 @@ Copies the crates to a temporary folder, adds a program there that makes the cal
 proves nothing. Prints for each number of calls the nanoseconds a call, and how they grew since the first number.
 Nothing else should run meanwhile.
 """
-import pathlib
-import shutil
-import subprocess
 import sys
-import tempfile
 
-TOP = pathlib.Path(__file__).resolve().parent.parent
+from beside_crates import rows_printed
+
+USES = "message_network rmem_calls home_tables slab_node page_latches rm_base"
 CALLS = (1_000, 10_000, 100_000, 1_000_000)
 CALLS_OF_A_ROUND = 5
 PROGRAM = """\
@@ -125,24 +123,8 @@ fn main(rt: HostRuntime) -> ExitCode {
 
 def timings(calls):
     """The nanoseconds of each number of calls, by one run of the program."""
-    with tempfile.TemporaryDirectory() as folder:
-        top = pathlib.Path(folder)
-        leave = shutil.ignore_patterns("out", "must-fail")
-        shutil.copytree(TOP / "crates", top / "crates", ignore=leave)
-        crates = (TOP / "crates.txt").read_text()
-        uses = "message_network rmem_calls home_tables slab_node page_latches rm_base"
-        (top / "crates.txt").write_text(f"{crates}pool_calls: {uses}\n")
-        program = top / "crates" / "pool_calls" / "src"
-        program.mkdir(parents=True)
-        (program / "main.rt").write_text(PROGRAM)
-        rounds = [str(number // CALLS_OF_A_ROUND) for number in calls]
-        run = ["rt", "try", "--seconds", "600", "--", *rounds]
-        done = subprocess.run(run, cwd=program.parent, capture_output=True, text=True, check=False)
-        lines = [line.split() for line in done.stdout.splitlines()]
-        times = [int(line[1]) for line in lines if len(line) == 2 and line[0] in rounds]
-        if len(times) != len(calls):
-            sys.exit(done.stdout + done.stderr)
-        return times
+    rounds = [str(number // CALLS_OF_A_ROUND) for number in calls]
+    return [int(row[1]) for row in rows_printed("pool_calls", PROGRAM, USES, rounds, 2)]
 
 
 def main():

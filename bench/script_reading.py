@@ -6,13 +6,10 @@
 Copies the crates to a temporary folder, adds a program there that reads scripts, and runs it by `rt try`, which
 proves nothing. Prints for each number of lines the nanoseconds a byte, and how they grew since the first number.
 """
-import pathlib
-import shutil
-import subprocess
 import sys
-import tempfile
 
-TOP = pathlib.Path(__file__).resolve().parent.parent
+from beside_crates import rows_printed
+
 LINES = (1_000, 10_000, 100_000)
 HEAD = "cluster nodes 1 slabs 1 slots 16 cache 16\\nsession a on n1\\n"
 LINE = "a: SELECT k FROM t WHERE k > 7\\nturn n1\\n"
@@ -69,23 +66,9 @@ fn main(rt: HostRuntime) -> ExitCode {{
 
 def timings(numbers):
     """The nanoseconds and the bytes of each number of lines, by one run of the program."""
-    with tempfile.TemporaryDirectory() as folder:
-        top = pathlib.Path(folder)
-        leave = shutil.ignore_patterns("out", "must-fail")
-        shutil.copytree(TOP / "crates", top / "crates", ignore=leave)
-        crates = (TOP / "crates.txt").read_text()
-        (top / "crates.txt").write_text(f"{crates}script_reading: script_text rm_base\n")
-        program = top / "crates" / "script_reading" / "src"
-        program.mkdir(parents=True)
-        (program / "main.rt").write_text(PROGRAM)
-        words = [str(number) for number in numbers]
-        run = ["rt", "try", "--seconds", "600", "--", *words]
-        done = subprocess.run(run, cwd=program.parent, capture_output=True, text=True, check=False)
-        lines = [line.split() for line in done.stdout.splitlines()]
-        times = [(int(line[1]), int(line[2])) for line in lines if len(line) == 3 and line[0] in words]
-        if len(times) != len(numbers):
-            sys.exit(done.stdout + done.stderr)
-        return times
+    words = [str(number) for number in numbers]
+    rows = rows_printed("script_reading", PROGRAM, "script_text rm_base", words, 3)
+    return [(int(row[1]), int(row[2])) for row in rows]
 
 
 def main():
