@@ -8,3 +8,4 @@ pub mod Making
 pub mod Widening
 pub mod Undoing
 pub mod UndoItems
+pub mod Example

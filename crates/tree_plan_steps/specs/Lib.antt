@@ -4,3 +4,4 @@ pub mod Following
 pub mod Planned
 pub mod EventLaws
 pub mod UndoItemLaws
+pub mod Example

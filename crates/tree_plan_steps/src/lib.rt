@@ -4,4 +4,4 @@
 
 mod laws;
 
-pub use laws::{event_laws, plan_laws, undo_item_laws};
+pub use laws::{event_laws, example_laws, plan_laws, undo_item_laws};
