@@ -1,0 +1,6 @@
+use Rattle.page_store.specs.Stored.{pages_of}
+use Rattle.bplus_tree.specs.Forest.{IsRoot}
+use Rattle.version_tests.proofs.limits.fill.Given as goal
+
+abbrev pub invariant-loop-key : goal.invariant-loop-key
+invariant-loop-key l = IsRoot (pages_of l.store) l.root
