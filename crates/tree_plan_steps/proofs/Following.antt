@@ -51,7 +51,7 @@ pub rooted : {language : Language} → (was : Content) (c : Cluster) → Refines
 rooted was c g = (now_sound was c g).rooted
 
 -- the store after its group is the newest of the log
-pub follows : (language : Language) (e : Event) (c : Cluster) (items : ℕ → Items) (old new : Pages)
+abbrev pub follows : (language : Language) (e : Event) (c : Cluster) (items : ℕ → Items) (old new : Pages)
     (T : Store) (s : ℕ) (W : Work) (m : Machine)
     → Happens language e c (cluster.grown c T s W m) → Stands items new T → UndoGrows old new
     → Follows language e c items old new
@@ -94,7 +94,7 @@ module _ {language : Language} (was : Content) (c : Cluster) (items : ℕ → It
   abbrev new : Pages
   new = grown lsn records pages
 
-  begin_grows : S.next ≤ MAX_TRX_ID → Begins (pages 0) (pages 1) s S.next records
+  pub begin_grows : S.next ≤ MAX_TRX_ID → Begins (pages 0) (pages 1) s S.next records
       → UndoGrows pages new
   begin_grows room b =
       undo_stays pages lsn records
@@ -120,7 +120,7 @@ module _ {language : Language} (was : Content) (c : Cluster) (items : ℕ → It
         (not_undo items pages S st.holds 0 q (meta_other items pages S st.holds) k, tt),
       )
 
-  begin_by : MayBegin c s → s < sessions → S.next ≤ MAX_TRX_ID
+  abbrev begin_by : MayBegin c s → s < sessions → S.next ≤ MAX_TRX_ID
       → Begins (pages 0) (pages 1) s S.next records
       → Follows language (event.begins s) c items pages new
   begin_by may low room b =
@@ -134,7 +134,7 @@ module _ {language : Language} (was : Content) (c : Cluster) (items : ℕ → It
         behind = st.behind;
       }) (begin_grows room b)
 
-pub begin_follows : (language : Language) → BeginFollows language
+abbrev pub begin_follows : (language : Language) → BeginFollows language
 begin_follows language was c items pages lsn s records g st may low room b =
     let next : (counters_of (pages 0)).next ≡ (now c).next = sym st.holds.counters.next_is in
     begin_by was c items pages lsn s records g st may low
@@ -162,7 +162,7 @@ module _ {language : Language} (was : Content) (c : Cluster) (items : ℕ → It
   pub trx_is : ((slot_of (pages 1) s).trx ≡ n) × (1 ≤ n)
   trx_is = holder_is (slot_of (pages 1) s) n (sym (st.holds.slots.slots s low) ∙ slot)
 
-  commit_by : MayCommit c s n → Commits (pages 0) (pages 1) (pages (stamp_page n)) s records
+  abbrev commit_by : MayCommit c s n → Commits (pages 0) (pages 1) (pages (stamp_page n)) s records
       → Follows language (event.commits s) c items pages (grown lsn records pages)
   commit_by may b =
       let below : n < (now c).next = (held was c g).open_below s n slot in
@@ -211,7 +211,7 @@ module _ {language : Language} (was : Content) (c : Cluster) (items : ℕ → It
       (λ q k. b.runs.only lsn (pages q)
       (not_undo items pages (now c) st.holds 1 q (slots_other items pages (now c) st.holds) k, tt)))
 
-pub commit_follows : (language : Language) → CommitFollows language
+abbrev pub commit_follows : (language : Language) → CommitFollows language
 commit_follows language was c items pages lsn s n records g st may b =
     commit_by was c items pages lsn s n records g st may.slot may
     (subst (λ (t : ℕ). Commits (pages 0) (pages 1) (pages (stamp_page t)) s records)

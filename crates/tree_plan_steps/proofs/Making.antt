@@ -62,10 +62,10 @@ module _ {language : Language} (was : Content) (c : Cluster) (items : ℕ → It
   abbrev new : Pages
   new = grown lsn (create_records pages s plan.records root step) pages
 
-  le : S.pages ≤ p
+  pub le : S.pages ≤ p
   le = more_pages items pages S st.holds s undo step w.keeps
 
-  makes : ((row : Row) × (h.row ≡ Some row)) × (S.rows catalog h.key ≡ [])
+  pub makes : ((row : Row) × (h.row ≡ Some row)) × (S.rows catalog h.key ≡ [])
   makes = may_create was c s n may.transaction h may.others g may.may may.is_table
 
   root_past : S.pages ≤ root
@@ -80,7 +80,7 @@ module _ {language : Language} (was : Content) (c : Cluster) (items : ℕ → It
           let more : S.pages ≤ page + 1 = subst (λ (o : Option ℕ). S.pages ≤ pages_with S o) e le in
           omega (arith, same, more)
 
-  stands_on : Holds (with_row items catalog item) new (T (Some makes.0.0)) × UndoGrows pages new
+  pub stands_on : Holds (with_row items catalog item) new (T (Some makes.0.0)) × UndoGrows pages new
   stands_on =
       subst
       (λ (k : List ℕ). Holds (with_row items catalog item) new
@@ -105,14 +105,14 @@ module _ {language : Language} (was : Content) (c : Cluster) (items : ℕ → It
   made_keeps : Held (split S p) × Rooted (split S p)
   made_keeps = groups_keep (group.splits p) S (split S p) (le, refl) (held was c g) (rooted was c g)
 
-  entries : EntriesRooted (T (Some makes.0.0))
+  pub entries : EntriesRooted (T (Some makes.0.0))
   entries =
       entries_stay_rooted.keep (group.creates s h.key makes.0.0) (split S p) (T (Some makes.0.0))
       (n, may.may.slot, makes.1, refl) made_keeps.0 made_keeps.1
       (entries_stay_rooted.keep (group.splits p) S (split S p) (le, refl) (held was c g)
       (rooted was c g) st.entries)
 
-  create_by : Follows language (event.creates s p) c (with_row items catalog item) pages new
+  abbrev create_by : Follows language (event.creates s p) c (with_row items catalog item) pages new
   create_by =
       follows language (event.creates s p) c (with_row items catalog item) pages new (T h.row) s
       (installs (c.work s) h may.others) c.machine
@@ -127,7 +127,7 @@ module _ {language : Language} (was : Content) (c : Cluster) (items : ℕ → It
             (omega (arith, le)) st.behind;
       })) stands_on.1
 
-pub create_follows : (language : Language) → CreateFollows language
+abbrev pub create_follows : (language : Language) → CreateFollows language
 create_follows language was c items pages lsn s n root h item undo path plan step g st may key_is
     says w root_is room counts =
     create_by was c items pages lsn s n root h item undo path plan step g st may key_is says w root_is

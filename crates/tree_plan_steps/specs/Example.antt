@@ -1,26 +1,80 @@
--- Stated: an example, the first transaction of history's small run begins over the pages of the
--- opening.
-use Rattle.std.specs.Prelude.{List, take}
+-- Stated: an example, the first transaction of history's small run over the pages of the opening: it
+-- begins, makes its table, and is committed.
+use Rattle.std.specs.Prelude.{ℕ, false, List, [], ◌∷◌, None, codes, take}
+use Rattle.page_view.specs.declared.leaf.LeafItem.{LeafItem}
+use Rattle.redo_record.specs.declared.plans.Plan.{Plan}
+use Rattle.redo_record.specs.declared.redo.Record.TheVariants.{InsertSlot}
+use Rattle.row_codec.specs.Records.{value_bytes}
+use Rattle.sql_catalog.specs.Catalog.{catalog_row}
 use Rattle.sql_database.specs.Database.{empty}
 use Rattle.table_machine.specs.declared.entries.Entry.{Entry}
-use Rattle.version_store.specs.Stores.{blank}
+use Rattle.tree_change.specs.Changes.{insert_plan}
+use Rattle.commit_stamps.specs.Fields.{no_undo}
+use Rattle.commit_stamps.specs.Plans.{commit_records}
+use Rattle.undo_versions.specs.declared.appending.UndoStep.{UndoStep}
+use Rattle.undo_versions.specs.declared.items.UndoItem.{UndoItem}
+use Rattle.undo_versions.specs.Appending.{bytes_of}
+use Rattle.version_store.specs.Stores.{blank, catalog}
 use Rattle.history.specs.Clusters.{Cluster, now, start}
-use Rattle.history.specs.Events.{AllHappen, Event, begins}
-use Rattle.history.specs.SmallLanguage.{small}
+use Rattle.history.specs.Events.{AllHappen, Event, begins, commits, creates}
+use Rattle.history.specs.SmallLanguage.{schema, small}
 use Rattle.history.specs.SmallRun.{making}
+use Rattle.held_versions.specs.Keeping.{grown}
 use Rattle.held_versions.specs.Laws.{no_items}
 use Rattle.held_versions.specs.Run.{after_begin, after_opening}
+use Rattle.tree_timeline.specs.Types.{Items, Pages}
+use Rattle.plan_steps.specs.Creates.{create_records}
+use Rattle.plan_steps.specs.RowChanges.{with_row}
 use Rattle.tree_plan_steps.specs.Following.{Follows, Stands}
 
 -- three sessions join, and the first one's CREATE is taken up and judged
 abbrev pub before_begin : List Event
 before_begin = take 7 making
 
--- The opening's pages hold the store then; by the plan of the begin the event happens, and the pages
--- after it hold the store that it leaves.
-pub record ExampleFollows : Type 0 where
+-- ---- the table, at the next page
+
+abbrev pub table_item : LeafItem
+table_item = record {
+  key = codes "t";
+  deleted = false;
+  trx = 1;
+  older = record { page = 1027; slot = 0 };
+  value = value_bytes 0 (catalog_row schema 1028);
+}
+
+abbrev pub table_undo : UndoItem
+table_undo = record { trx = 1; root = catalog; before = no_undo; key = codes "t"; old = None }
+
+abbrev pub table_step : UndoStep
+table_step = record {
+  at = record { page = 1027; slot = 0 };
+  records = InsertSlot 1027 0 (bytes_of table_undo) ∷ [];
+  made = None;
+}
+
+abbrev pub put_plan : Plan
+put_plan = insert_plan (after_begin catalog) table_item
+
+-- ---- the pages and the items after each group
+
+abbrev pub after_create : Pages
+after_create =
+    grown 3 (create_records after_begin 0 put_plan.records 1028 table_step) after_begin
+
+abbrev pub items : ℕ → Items
+items = with_row no_items catalog table_item
+
+abbrev pub after_commit : Pages
+after_commit =
+    grown 4 (commit_records (after_create 0) (after_create 1) (after_create 2) 0) after_create
+
+-- The opening's pages hold the store; and by the plans of a begin, of the making of a table and of a
+-- commit each event happens, one after the other, and the pages hold the store that it leaves.
+pub record ExampleRuns : Type 0 where
   pub journal : List Entry
-  pub cluster : Cluster
-  pub happens : AllHappen small (start 2 empty 0 blank) before_begin journal cluster
-  pub stands : Stands no_items after_opening (now cluster)
-  pub follows : Follows small (begins 0) cluster no_items after_opening after_begin
+  pub judged : Cluster
+  pub happens : AllHappen small (start 2 empty 0 blank) before_begin journal judged
+  pub stands : Stands no_items after_opening (now judged)
+  pub begin : Follows small (begins 0) judged no_items after_opening after_begin
+  pub create : Follows small (creates 0 1028) begin.after items after_begin after_create
+  pub commit : Follows small (commits 0) create.after items after_create after_commit

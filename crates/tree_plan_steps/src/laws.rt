@@ -1,5 +1,5 @@
 ghost use Rattle.tree_plan_steps.specs.EventLaws.{BeginFollows, CommitFollows, CreateFollows, FreeFollows, RootSplitFollows, SplitFollows, UndoFollows, WriteFollows};
-ghost use Rattle.tree_plan_steps.specs.Example.{ExampleFollows};
+ghost use Rattle.tree_plan_steps.specs.Example.{ExampleRuns};
 ghost use Rattle.tree_plan_steps.specs.Laws.{PutChangesLeaf, RemoveChangesLeaf, RootSplitIsSplit, SplitIsSplit};
 ghost use Rattle.tree_plan_steps.specs.UndoItemLaws.{LastUndoIsNewest, LastUndoIsRead, OlderIsUndo};
 
@@ -36,8 +36,8 @@ pub fn undo_item_laws()
     ensures read { LastUndoIsRead }
 {}
 
-/// The first transaction of a small run of two nodes begins over the pages of the opening. It does nothing when it is
-/// run.
+/// The first transaction of a small run of two nodes begins over the pages of the opening, makes its table, and is
+/// committed. It does nothing when it is run.
 pub fn example_laws()
-    ensures follows { ExampleFollows }
+    ensures runs { ExampleRuns }
 {}

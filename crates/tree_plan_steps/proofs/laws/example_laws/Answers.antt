@@ -1,5 +1,5 @@
-use Rattle.tree_plan_steps.proofs.Example.{example_follows}
+use Rattle.tree_plan_steps.proofs.Example.{example_runs}
 use Rattle.tree_plan_steps.proofs.laws.example_laws.Goals as goal
 
 pub returns : goal.returns
-returns c = record { follows = example_follows }
+returns c = record { runs = example_runs }
