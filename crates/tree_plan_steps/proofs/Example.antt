@@ -59,7 +59,7 @@ use Rattle.held_versions.specs.Run.{after_opening, after_begin}
 use Rattle.held_versions.proofs.Opening.{opening_is_blank}
 use Rattle.held_versions.proofs.Running.{records_good}
 use Rattle.plan_steps.proofs.Entries.{entries_stay_rooted}
-use Rattle.tree_plan_steps.specs.Example.{ExampleRuns, after_create, before_begin, items, put_plan, table_item, table_step, table_undo, after_commit}
+use Rattle.tree_plan_steps.specs.Example.{after_create, before_begin, items, put_plan, table_item, table_step, table_undo, after_commit}
 use Rattle.tree_plan_steps.specs.Following.{Stands, Follows, MayCreate}
 use Rattle.tree_plan_steps.proofs.Following.{begin_follows, commit_follows}
 
@@ -68,15 +68,15 @@ use Rattle.tree_plan_steps.proofs.Following.{begin_follows, commit_follows}
 abbrev judging : List Event
 judging = event.takes_up 0 ∷ (event.judges 0 ∷ [])
 
-judged : (journal : List Entry) × AllHappen small c5 judging journal c7
+pub judged : (journal : List Entry) × AllHappen small c5 judging journal c7
 judged = (_, (c6, _, does6, refl, (c7, _, does7, refl, (refl, refl))))
 
-good7 : Refines small nothing c7
+pub good7 : Refines small nothing c7
 good7 =
     (story small keeps_name small_rules.by_content (content_fits small_rules) nothing judging c5
     judged.0 c7 judged.1 good5).1
 
-run7 : (journal : List Entry) × AllHappen small c0 before_begin journal c7
+pub run7 : (journal : List Entry) × AllHappen small c0 before_begin journal c7
 run7 = (
   _,
   (
@@ -108,29 +108,29 @@ run7 = (
 
 -- ---- the pages
 
-opening_good : (p : ℕ) → p ≤ 32767 → IsImage (after_opening p)
+pub opening_good : (p : ℕ) → p ≤ 32767 → IsImage (after_opening p)
 opening_good p bound =
     (records_good opening_records 1 (unmade p) (omega arith) (omega arith)
     (unmade_good p bound, omega arith) (opening_applies 1 p)).0
 
-first_begins : Begins (after_opening 0) (after_opening 1) 0 1
+pub first_begins : Begins (after_opening 0) (after_opening 1) 0 1
     (begin_records (after_opening 0) (after_opening 1) 0 1)
 first_begins =
     begins (after_opening 0) (after_opening 1) 0 1 (opening_good 0 (omega arith))
     (opening_good 1 (omega arith)) opening_is_blank.counters.meta opening_is_blank.slots.page
     (omega arith) (omega arith)
 
-opening_stands : Stands no_items after_opening (now c7)
+pub opening_stands : Stands no_items after_opening (now c7)
 opening_stands = record {
   holds = opening_is_blank;
   entries = entries_stay_rooted.first;
   behind = λ root past. refl;
 }
 
-next_is : 1 ≡ (counters_of (after_opening 0)).next
+pub next_is : 1 ≡ (counters_of (after_opening 0)).next
 next_is = opening_is_blank.counters.next_is
 
-abbrev begin : Follows small (event.begins 0) c7 no_items after_opening after_begin
+abbrev pub begin : Follows small (event.begins 0) c7 no_items after_opening after_begin
 begin =
     begin_follows small nothing c7 no_items after_opening 2 0
     (begin_records (after_opening 0) (after_opening 1) 0 1) good7 opening_stands
@@ -142,44 +142,44 @@ begin =
 
 -- ---- the table is made
 
-good8 : Refines small nothing c8
+pub good8 : Refines small nothing c8
 good8 =
     (story small keeps_name small_rules.by_content (content_fits small_rules) nothing (event.begins 0 ∷ []) c7
     _ c8 (c8, _, does8, refl, (refl, refl)) good7).1
 
 -- a page after the records of a group that apply
-good_after : (records : List Record) (lsn : ℕ) (im : Image) → 1 ≤ lsn → lsn < 2 ^ 64 → IsImage im
+pub good_after : (records : List Record) (lsn : ℕ) (im : Image) → 1 ≤ lsn → lsn < 2 ^ 64 → IsImage im
     → im.lsn ≤ lsn → RecordsApply lsn records im → IsImage (after_records lsn records im)
 good_after records lsn im some small good low applies =
     (records_good records lsn im some small (good, low) applies).0
 
-meta_good : IsImage (after_begin 0)
+pub meta_good : IsImage (after_begin 0)
 meta_good =
     good_after (begin_records (after_opening 0) (after_opening 1) 0 1) 2 (after_opening 0) (omega arith)
     (omega arith) (opening_good 0 (omega arith)) (omega arith) (first_begins.runs.applies 2).1.1.0
 
-slots_good : IsImage (after_begin 1)
+pub slots_good : IsImage (after_begin 1)
 slots_good =
     good_after (begin_records (after_opening 0) (after_opening 1) 0 1) 2 (after_opening 1) (omega arith)
     (omega arith) (opening_good 1 (omega arith)) (omega arith) (first_begins.runs.applies 2).1.0
 
-undo_page_is : undo_in_use after_begin ≡ after_begin 1027
+pub undo_page_is : undo_in_use after_begin ≡ after_begin 1027
 unfolding number field
 undo_page_is = refl
 
-step_same : table_step ≡ undo_step (after_begin 0) (undo_in_use after_begin) table_undo
+pub step_same : table_step ≡ undo_step (after_begin 0) (undo_in_use after_begin) table_undo
 unfolding number field
 step_same = refl
 
-count_is : page_count (after_begin 0) ≡ 1028
+pub count_is : page_count (after_begin 0) ≡ 1028
 unfolding number field
 count_is = refl
 
-last_is : (slot_of (after_begin 1) 0).last ≡ no_undo
+pub last_is : (slot_of (after_begin 1) 0).last ≡ no_undo
 unfolding number field
 last_is = refl
 
-undo_is : IsUndo (undone_of table_undo)
+pub undo_is : IsUndo (undone_of table_undo)
 undo_is = record {
   trx = omega arith;
   root = omega arith;
@@ -189,15 +189,15 @@ undo_is = record {
   old = tt;
 }
 
-undo_said : undo_in (bytes_of table_undo) ≡ Some (undone_of table_undo)
+pub undo_said : undo_in (bytes_of table_undo) ≡ Some (undone_of table_undo)
 unfolding number field holds_undo
 undo_said = refl
 
-undo_fits : fits_bytes (after_begin 1027) (bytes_of table_undo) ≡ true
+pub undo_fits : fits_bytes (after_begin 1027) (bytes_of table_undo) ≡ true
 unfolding field
 undo_fits = refl
 
-keeps : KeepsUndoItem after_begin 0 table_undo table_step
+pub keeps : KeepsUndoItem after_begin 0 table_undo table_step
 keeps = record {
   space = λ full. (let few = count_is in let most = full.1 in absurd (omega (arith, few, most)));
   step_is = step_same;
@@ -211,17 +211,17 @@ keeps = record {
 
 -- ---- its leaf
 
-leaf_rows : HasRows (after_begin catalog)
+pub leaf_rows : HasRows (after_begin catalog)
 leaf_rows = record { kind = refl; items = tt; ascend = λ i j less within. absurd (omega arith) }
 
-no_key : ¬ HasKey (codes "t") (after_begin catalog)
+pub no_key : ¬ HasKey (codes "t") (after_begin catalog)
 no_key h = absurd (let e : None ≡ Some (codes "t") = h.1 in cc)
 
-size_is : length table_item.value ≡ 12
+pub size_is : length table_item.value ≡ 12
 unfolding field
 size_is = refl
 
-item_is : IsLeaf table_item
+pub item_is : IsLeaf table_item
 item_is = record {
   short_key = omega arith;
   short = omega (arith, size_is);
@@ -230,10 +230,10 @@ item_is = record {
   older_slot = omega arith;
 }
 
-room : size_of table_item ≤ room_for (codes "t") (after_begin catalog)
+pub room : size_of table_item ≤ room_for (codes "t") (after_begin catalog)
 room = omega (arith, size_is)
 
-leaf_way : IsPath after_begin catalog [] (codes "t") (after_begin catalog ∷ [])
+pub leaf_way : IsPath after_begin catalog [] (codes "t") (after_begin catalog ∷ [])
 leaf_way = record { numbers = catalog ∷ []; way = λ tree. by_level tree.level tree.nodes tree.stands; read = refl }
   where
     by_level : (level : ℕ) (nodes : List ℕ) → tree.Stands after_begin level catalog None None [] nodes
@@ -243,7 +243,7 @@ leaf_way = record { numbers = catalog ∷ []; way = λ tree. by_level tree.level
 
 -- ---- its row in the catalog
 
-spelt : IsRecord catalog_schema (catalog_row schema 1028) table_item.key table_item.value
+pub spelt : IsRecord catalog_schema (catalog_row schema 1028) table_item.key table_item.value
 unfolding field
 spelt = record {
   fits = record { cells = (tt, (tt, tt)); key = λ e. cc };
@@ -254,7 +254,7 @@ spelt = record {
   short_record = omega arith;
 }
 
-spells : SpellsTable table_item schema 1028
+pub spells : SpellsTable table_item schema 1028
 spells = record {
   table = record { some = omega arith; few = omega arith; differ = (tt, tt); key = omega arith };
   bounded = record {
@@ -265,14 +265,14 @@ spells = record {
   spelt = spelt;
 }
 
-says : SaysTable table_item (naming (with_made (now c8) None) 1 made.row)
+pub says : SaysTable table_item (naming (with_made (now c8) None) 1 made.row)
 says = record { lives = refl; schema = schema; spells = spells; row = refl }
 
-names_table : bytes_eq made.table catalog_name ≡ true
+pub names_table : bytes_eq made.table catalog_name ≡ true
 unfolding catalog_name
 names_table = refl
 
-abbrev may_create : MayCreate c8 0 1 made
+abbrev pub may_create : MayCreate c8 0 1 made
 may_create = record {
   transaction = t1x;
   others = [];
@@ -289,7 +289,7 @@ may_create = record {
   is_table = names_table;
 }
 
-abbrev create : Follows small (event.creates 0 1028) c8 items after_begin after_create
+abbrev pub create : Follows small (event.creates 0 1028) c8 items after_begin after_create
 create =
     create_follows small nothing c8 no_items after_begin 3 0 1 1028 made table_item table_undo
     (after_begin catalog ∷ []) put_plan table_step good8 begin.stands may_create refl says
@@ -309,15 +309,15 @@ create =
 
 -- ---- and the transaction is committed
 
-good9 : Refines small nothing c9
+pub good9 : Refines small nothing c9
 good9 =
     (story small keeps_name small_rules.by_content (content_fits small_rules) nothing
     (event.creates 0 1028 ∷ []) c8 _ c9 (c9, _, does9, refl, (refl, refl)) good8).1
 
-made_stands : Stands items after_create (now c9)
+pub made_stands : Stands items after_create (now c9)
 made_stands = create.stands
 
-after_meta : IsImage (after_create 0)
+pub after_meta : IsImage (after_create 0)
 after_meta =
     good_after (create_records after_begin 0 put_plan.records 1028 table_step) 3 (after_begin 0)
     (omega arith) (omega arith) meta_good (omega arith) (
@@ -331,7 +331,7 @@ after_meta =
       ),
     )
 
-after_slots : IsImage (after_create 1)
+pub after_slots : IsImage (after_create 1)
 after_slots =
     good_after (create_records after_begin 0 put_plan.records 1028 table_step) 3 (after_begin 1)
     (omega arith) (omega arith) slots_good (omega arith) (
@@ -345,16 +345,16 @@ after_slots =
       ),
     )
 
-after_stamps : IsImage (after_create 2)
+pub after_stamps : IsImage (after_create 2)
 after_stamps =
     good_after (begin_records (after_opening 0) (after_opening 1) 0 1) 2 (after_opening 2) (omega arith)
     (omega arith) (opening_good 2 (omega arith)) (omega arith) (first_begins.runs.applies 2).0
 
-trx_one : (slot_of (after_create 1) 0).trx ≡ 1
+pub trx_one : (slot_of (after_create 1) 0).trx ≡ 1
 unfolding number field
 trx_one = refl
 
-first_commits : Commits (after_create 0) (after_create 1) (after_create 2) 0
+pub first_commits : Commits (after_create 0) (after_create 1) (after_create 2) 0
     (commit_records (after_create 0) (after_create 1) (after_create 2) 0)
 first_commits =
     let last : 0 ≡ (counters_of (after_create 0)).last = made_stands.holds.counters.last_is in
@@ -364,7 +364,7 @@ first_commits =
     (made_stands.holds.stamps.made 1 (omega arith) (omega arith)))
     (omega arith) (omega (arith, last))
 
-may_commit : MayCommit c9 0 1
+pub may_commit : MayCommit c9 0 1
 may_commit = record {
   no_job = rested c9 refl refl refl past9;
   free = none_forced c9.machine (let z : c9.machine.joined ≤ 3 = omega arith in z) refl refl refl;
@@ -382,21 +382,10 @@ may_commit = record {
   todo = refl;
 }
 
-abbrev commit : Follows small (event.commits 0) c9 items after_create after_commit
+abbrev pub commit : Follows small (event.commits 0) c9 items after_create after_commit
 commit =
     commit_follows small nothing c9 items after_create 4 0 1
     (commit_records (after_create 0) (after_create 1) (after_create 2) 0) good9 made_stands may_commit
     (subst
     (λ (t : ℕ). Commits (after_create 0) (after_create 1) (after_create (stamp_page t)) 0
     (commit_records (after_create 0) (after_create 1) (after_create 2) 0)) (sym trx_one) first_commits)
-
-pub example_runs : ExampleRuns
-example_runs = record {
-  journal = run7.0;
-  judged = c7;
-  happens = run7.1;
-  stands = opening_stands;
-  begin = begin;
-  create = create;
-  commit = commit;
-}

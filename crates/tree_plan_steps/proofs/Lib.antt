@@ -9,3 +9,5 @@ pub mod Widening
 pub mod Undoing
 pub mod UndoItems
 pub mod Example
+pub mod ExampleUndo
+pub mod ExampleRun

@@ -37,7 +37,7 @@ pub fn undo_item_laws()
 {}
 
 /// The first transaction of a small run of two nodes begins over the pages of the opening, makes its table, and is
-/// committed. It does nothing when it is run.
+/// committed; or is undone by another node where its own is lost before. It does nothing when it is run.
 pub fn example_laws()
     ensures runs { ExampleRuns }
 {}

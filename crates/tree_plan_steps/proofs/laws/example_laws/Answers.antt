@@ -1,4 +1,4 @@
-use Rattle.tree_plan_steps.proofs.Example.{example_runs}
+use Rattle.tree_plan_steps.proofs.ExampleRun.{example_runs}
 use Rattle.tree_plan_steps.proofs.laws.example_laws.Goals as goal
 
 pub returns : goal.returns
