@@ -1,7 +1,10 @@
 -- For the proofs: the groups of splits follow the events of history.
-use Rattle.std.proofs.Common.{◌≤◌, ◌+◌, ℕ, refl, arith}
+use Rattle.std.proofs.Common.{◌≤◌, ◌+◌, ℕ, Bool, true, false, length, refl, sym, ap, subst, arith}
 use Rattle.page_image.specs.Meta.{page_count}
 use Rattle.redo_record.specs.declared.plans.Plan.{Plan}
+use Rattle.tree_change.specs.Places.{page_on}
+use Rattle.tree_change.specs.Room.{lacks_room}
+use Rattle.tree_change.specs.Splits.{IsSplitOf, SpaceFor}
 use Rattle.table_machine.specs.Language.{Language}
 use Rattle.version_store.specs.Contents.{Content}
 use Rattle.version_store.specs.Groups as group
@@ -15,7 +18,7 @@ use Rattle.tree_timeline.specs.Types.{Items, Pages}
 use Rattle.plan_steps.specs.Splitting.{IsSplit}
 use Rattle.plan_steps.proofs.Entries.{entries_stay_rooted}
 use Rattle.plan_steps.proofs.Splitting as steps
-use Rattle.tree_plan_steps.specs.EventLaws.{RootSplitFollows, SplitFollows}
+use Rattle.tree_plan_steps.specs.EventLaws.{RoomFollows, RootSplitFollows, SplitFollows}
 use Rattle.tree_plan_steps.specs.Following.{Follows, MaySplit, Stands}
 use Rattle.tree_plan_steps.proofs.Following.{follows, held, rooted}
 use Rattle.tree_plan_steps.proofs.Splits.{root_split_is_split, split_is_split}
@@ -52,3 +55,25 @@ root_split_follows language was c items pages lsn s root key path plan g st may 
     splits_by was c items pages lsn s root (page_count (pages 0) + 2) plan g st may named
     (root_split_is_split items pages (now c) lsn root key path plan st.holds named path_is rules image
     low is keeps)
+
+pub room_follows : (language : Language) → RoomFollows language
+room_follows language was c items pages lsn s root item path plan g st may named path_is rules image
+    space is keeps =
+    by_root (lacks_room item (page_on path 0)) space is
+  where
+    by_root : (full : Bool) → SpaceFor full (page_on path 0) (page_count (pages 0))
+        → IsSplitOf full item path (pages 0) plan
+        → Follows language (event.splits s (page_count (pages 0) + length plan.made)) c items pages
+        (grown lsn plan.records pages)
+    by_root true space is =
+        subst
+        (λ (n : ℕ). Follows language (event.splits s (page_count (pages 0) + n)) c items pages
+        (grown lsn plan.records pages)) (sym (ap (λ (p : Plan). length p.made) is.plan_is))
+        (root_split_follows language was c items pages lsn s root item.key path plan g st may named path_is
+        rules image space.0 is keeps)
+    by_root false space is =
+        subst
+        (λ (n : ℕ). Follows language (event.splits s (page_count (pages 0) + n)) c items pages
+        (grown lsn plan.records pages)) (sym (ap (λ (p : Plan). length p.made) is.plan_is))
+        (split_follows language was c items pages lsn s root item path plan g st may named path_is rules is
+        keeps)

@@ -1,6 +1,6 @@
 -- Stated: the group of each plan makes of the store that pages hold the step that the event of
 -- history asks for.
-use Rattle.std.specs.Prelude.{◌≡◌, ◌≤◌, ◌<◌, ◌+◌, ℕ, List}
+use Rattle.std.specs.Prelude.{◌≡◌, ◌≤◌, ◌<◌, ◌+◌, ℕ, List, length}
 use Rattle.rm_base.specs.declared.limits.TheConstants.{MAX_PAGES, MAX_TRX_ID}
 use Rattle.page_image.specs.Image.{Image}
 use Rattle.page_image.specs.Meta.{counters_of, page_count}
@@ -10,7 +10,8 @@ use Rattle.redo_record.specs.declared.plans.Plan.{Plan}
 use Rattle.redo_record.specs.declared.redo.Record.{Record}
 use Rattle.tree_change.specs.Effects.{Keeps}
 use Rattle.tree_change.specs.Places.{page_on}
-use Rattle.tree_change.specs.Splits.{IsRootSplit}
+use Rattle.tree_change.specs.Room.{lacks_room}
+use Rattle.tree_change.specs.Splits.{IsRootSplit, IsSplitOf, SpaceFor}
 use Rattle.tree_change.specs.Splits as splits
 use Rattle.commit_stamps.specs.Effects.{Begins, Commits, Frees}
 use Rattle.commit_stamps.specs.Fields.{slot_of}
@@ -96,6 +97,20 @@ RootSplitFollows language =
     → (page_on path 0).level < 8 → IsRootSplit path (pages 0) plan
     → Keeps key path (pages 0) plan
     → Follows language (event.splits s (page_count (pages 0) + 2)) c items pages
+    (grown lsn plan.records pages)
+
+-- So for the plan of whichever page is the first with too little room, where there is space for it:
+-- the event counts the pages that the plan makes.
+abbrev pub RoomFollows : Language → Type 0
+RoomFollows language =
+    (was : Content) (c : Cluster) (items : ℕ → Items) (pages : Pages) (lsn s root : ℕ)
+    (item : LeafItem) (path : List Image) (plan : Plan)
+    → Refines language was c → Stands items pages (now c) → MaySplit c → IsRoot (now c) root
+    → IsPath pages root (items root) item.key path → IsImage (pages 0) → IsImage (page_on path 0)
+    → SpaceFor (lacks_room item (page_on path 0)) (page_on path 0) (page_count (pages 0))
+    → IsSplitOf (lacks_room item (page_on path 0)) item path (pages 0) plan
+    → Keeps item.key path (pages 0) plan
+    → Follows language (event.splits s (page_count (pages 0) + length plan.made)) c items pages
     (grown lsn plan.records pages)
 
 -- the session's transaction is committed

@@ -1,4 +1,4 @@
-ghost use Rattle.tree_plan_steps.specs.EventLaws.{BeginFollows, CommitFollows, CreateFollows, FreeFollows, RootSplitFollows, SplitFollows, UndoFollows, WriteFollows};
+ghost use Rattle.tree_plan_steps.specs.EventLaws.{BeginFollows, CommitFollows, CreateFollows, FreeFollows, RoomFollows, RootSplitFollows, SplitFollows, UndoFollows, WriteFollows};
 ghost use Rattle.tree_plan_steps.specs.Example.{ExampleRuns};
 ghost use Rattle.tree_plan_steps.specs.Laws.{PutChangesLeaf, RemoveChangesLeaf, RootSplitIsSplit, SplitIsSplit};
 ghost use Rattle.tree_plan_steps.specs.UndoItemLaws.{LastUndoIsNewest, LastUndoIsRead, OlderIsUndo};
@@ -22,6 +22,7 @@ pub fn event_laws<L: Language>()
     ensures create { CreateFollows L.language }
     ensures split { SplitFollows L.language }
     ensures root_split { RootSplitFollows L.language }
+    ensures room { RoomFollows L.language }
     ensures commit { CommitFollows L.language }
     ensures undo { UndoFollows L.language }
     ensures free { FreeFollows L.language }
