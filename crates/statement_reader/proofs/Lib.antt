@@ -1,5 +1,6 @@
 pub mod AnswerLaws
 pub mod DecodingLaws
+pub mod KeptLaws
 pub mod ProgressLaws
 pub mod ReaderLaws
 pub mod SpellingLaws

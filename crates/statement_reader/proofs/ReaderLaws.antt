@@ -169,6 +169,16 @@ unfolding stage_of
 reading_asks_none d st p o im e h =
     ((λ t. false_true t), (λ a. absurd (end_asks d st p.stage p (finding_in o) im (ready_none p o e h) a)))
 
+-- a statement that asks for a page does so by the range that is read
+pub asked_now : (d : Decoder) (st : Stmt) (p : Progress) (o : Option RangeReader) (im : Image) → Ready p o → Asked (stage_of d st p o) im → Asked (finding_in o) im
+asked_now d st p None im h a = false_true ((reading_asks_none d st p None im refl h).1 a)
+asked_now d st p (Some f) im h g =
+    let r = ready_some p (Some f) f refl h in
+    let a = asking (finding_of f) r.1 in
+    let P : Finding → Type 0 = λ m. Asked m im in
+    let Q : Reading Found → Type 0 = λ m. Asked m im in
+    subst P (sym a.is) (subst Q (stage_of_ask d st p (Some f) f a.fetch a.next refl a.is r.2) g)
+
 -- ---- a page is given
 
 pub handed : (d : Decoder) (st : Stmt) (p : Progress) (o : Option RangeReader) (f g : RangeReader) (im : Image) → o ≡ Some f → Ready p o

@@ -1,6 +1,7 @@
 //! What a statement reads, over pages that are handed in one by one.
 #![tactic(auto)]
 
+mod asking;
 mod decoding;
 mod laws;
 mod naming;
@@ -10,6 +11,7 @@ mod tables;
 #[cfg(test)]
 mod tests;
 
-pub use laws::{answer_law, decoder_law, fetch_law, order_law};
+pub use asking::{AskingReader, Read};
+pub use laws::{answer_law, decoder_law, fetch_law, order_law, read_laws};
 pub use reader::StatementReader;
 pub use tables::{Found, Table};
