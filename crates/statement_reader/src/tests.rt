@@ -1,14 +1,13 @@
 //! Statements that are read over pages that are handed in one by one.
-ghost use Rattle.std.specs.Prelude.{◌≡◌, true, IfOk, IfSome, OnOk};
+ghost use Rattle.std.specs.Prelude.{IfSome};
 ghost use Rattle.range_reader.specs.Finding.{Asked};
-ghost use Rattle.statement_reader.specs.Machine.{IsReady, present};
+ghost use Rattle.statement_reader.specs.Kept.{asking_of};
 
 use crate::*;
 use page_image::{Kind, Page};
 use range_reader::Snapshot;
 use rm_base::{Items, Lsn, PageId, Stamp, WantOfMemory};
 use sql_front::parse;
-use sql_statements::Stmt;
 use std::alloc::Global;
 use std::test::Fail;
 
@@ -91,9 +90,8 @@ fn two_tables(alloc: Global) -> Result<Items<Page>, WantOfMemory> {
 }
 
 /// The page that is wanted, if it is one of these.
-fn page_for<'a>(reader: &StatementReader, pages: &'a Items<Page>) -> Option<&'a Page>
-    requires { IsReady reader.now }
-    ensures { IfSome result (λ page. Asked (present reader.now) page.now) }
+fn page_for<'a>(reader: &AskingReader, pages: &'a Items<Page>) -> Option<&'a Page>
+    ensures { IfSome result (λ page. Asked (asking_of reader.now) page.now) }
 {
     for page in pages.as_slice() {
         if reader.takes(page) {
@@ -106,19 +104,15 @@ fn page_for<'a>(reader: &StatementReader, pages: &'a Items<Page>) -> Option<&'a 
 /// Gives the page that is wanted, and notes its number.
 fn step(
     alloc: Global,
-    reader: &mut StatementReader,
-    statement: &Stmt,
+    reader: &mut AskingReader,
     pages: &Items<Page>,
     trail: &mut Items<u32>,
-) -> Result<(), WantOfMemory>
-    requires { IsReady reader.old }
-    ensures { OnOk result (IsReady reader.new) }
-{
+) -> Result<(), WantOfMemory> {
     match page_for(reader, pages) {
         None => Ok(()),
         Some(page) => {
             trail.push(page.page().number())?;
-            reader.give(alloc, statement, page)
+            reader.give(alloc, page)
         }
     }
 }
@@ -126,18 +120,14 @@ fn step(
 /// Four such steps.
 fn steps(
     alloc: Global,
-    reader: &mut StatementReader,
-    statement: &Stmt,
+    reader: &mut AskingReader,
     pages: &Items<Page>,
     trail: &mut Items<u32>,
-) -> Result<(), WantOfMemory>
-    requires { IsReady reader.old }
-    ensures { OnOk result (IsReady reader.new) }
-{
-    step(alloc, reader, statement, pages, trail)?;
-    step(alloc, reader, statement, pages, trail)?;
-    step(alloc, reader, statement, pages, trail)?;
-    step(alloc, reader, statement, pages, trail)
+) -> Result<(), WantOfMemory> {
+    step(alloc, reader, pages, trail)?;
+    step(alloc, reader, pages, trail)?;
+    step(alloc, reader, pages, trail)?;
+    step(alloc, reader, pages, trail)
 }
 
 /// The pages that a statement is given, and how many left rows and lists of right rows it finds.
@@ -151,14 +141,15 @@ fn read(alloc: Global, text: &[u8]) -> Result<(Items<u32>, Option<(usize, usize)
         stamp: Stamp::new(1),
         own: None,
     };
-    let mut reader = StatementReader::new(alloc, snapshot, &statement)?;
-    steps(alloc, &mut reader, &statement, &pages, &mut trail)?;
-    steps(alloc, &mut reader, &statement, &pages, &mut trail)?;
-    steps(alloc, &mut reader, &statement, &pages, &mut trail)?;
-    match reader.into_found() {
-        None => Ok((trail, None)),
-        Some(found) => Ok((trail, Some((found.rows.left.len(), found.rows.right.len())))),
-    }
+    let mut reader = AskingReader::begin(alloc, snapshot, statement)?;
+    steps(alloc, &mut reader, &pages, &mut trail)?;
+    steps(alloc, &mut reader, &pages, &mut trail)?;
+    steps(alloc, &mut reader, &pages, &mut trail)?;
+    Ok((trail, reader.into_read().map(|read| counts_of(&read))))
+}
+
+fn counts_of(read: &Read) -> (usize, usize) {
+    (read.found.rows.left.len(), read.found.rows.right.len())
 }
 
 #[test]
@@ -167,7 +158,7 @@ fn a_table_is_looked_up_and_read(rt: HostRuntime) -> Result<(), Fail> {
     assert_eq!(rt; trail.as_slice(), [1026, 2, 1028, 2, 2].as_slice());
     assert_eq!(rt; found, Some((2, 0)));
     answer_law();
-    order_law();
+    read_laws();
     Ok(())
 }
 
