@@ -155,8 +155,7 @@ tells_read s st us r h =
 
 pub tells_outcome : TellsOutcome
 tells_outcome s st us r o h is =
-    let over = tells_read s st us r h in
-    (
+    let over = tells_read s st us r h in (
       r.found,
       over.found,
       subst (λ (x : Stmt). ComesFrom (Answers r.found.schemas r.found.rows x) o) over.statement is,

@@ -130,31 +130,55 @@ fn steps(
     step(alloc, reader, pages, trail)
 }
 
-/// The pages that a statement is given, and how many left rows and lists of right rows it finds.
-fn read(alloc: Global, text: &[u8]) -> Result<(Items<u32>, Option<(usize, usize)>), WantOfMemory> {
+/// Twelve such steps over the two tables.
+fn read_on(
+    alloc: Global,
+    reader: &mut AskingReader,
+    trail: &mut Items<u32>,
+) -> Result<(), WantOfMemory> {
     let pages = two_tables(alloc)?;
-    let mut trail = Items::new(alloc);
+    steps(alloc, reader, &pages, trail)?;
+    steps(alloc, reader, &pages, trail)?;
+    steps(alloc, reader, &pages, trail)
+}
+
+/// A reader of a statement, with the first commit. None where the text is none.
+fn reader_of(alloc: Global, text: &[u8]) -> Result<Option<AskingReader>, WantOfMemory> {
     let Ok(statement) = parse(alloc, text)? else {
-        return Ok((trail, None));
+        return Ok(None);
     };
     let snapshot = Snapshot {
         stamp: Stamp::new(1),
         own: None,
     };
-    let mut reader = AskingReader::begin(alloc, snapshot, statement)?;
-    steps(alloc, &mut reader, &pages, &mut trail)?;
-    steps(alloc, &mut reader, &pages, &mut trail)?;
-    steps(alloc, &mut reader, &pages, &mut trail)?;
-    Ok((trail, reader.into_read().map(|read| counts_of(&read))))
+    Ok(Some(AskingReader::begin(alloc, snapshot, statement)?))
 }
 
-fn counts_of(read: &Read) -> (usize, usize) {
-    (read.found.rows.left.len(), read.found.rows.right.len())
+/// How many left rows and lists of right rows were found.
+fn counts_of(reader: AskingReader) -> Option<(usize, usize)> {
+    match reader.into_read() {
+        None => None,
+        Some(read) => Some((read.found.rows.left.len(), read.found.rows.right.len())),
+    }
+}
+
+/// Reads a statement, and notes the pages that it is given.
+fn read(
+    alloc: Global,
+    text: &[u8],
+    trail: &mut Items<u32>,
+) -> Result<Option<(usize, usize)>, WantOfMemory> {
+    let Some(mut reader) = reader_of(alloc, text)? else {
+        return Ok(None);
+    };
+    read_on(alloc, &mut reader, trail)?;
+    Ok(counts_of(reader))
 }
 
 #[test]
 fn a_table_is_looked_up_and_read(rt: HostRuntime) -> Result<(), Fail> {
-    let (trail, found) = read(rt.alloc(), b"SELECT * FROM t")?;
+    let mut trail = Items::new(rt.alloc());
+    let found = read(rt.alloc(), b"SELECT * FROM t", &mut trail)?;
     assert_eq!(rt; trail.as_slice(), [1026, 2, 1028, 2, 2].as_slice());
     assert_eq!(rt; found, Some((2, 0)));
     answer_law();
@@ -164,7 +188,12 @@ fn a_table_is_looked_up_and_read(rt: HostRuntime) -> Result<(), Fail> {
 
 #[test]
 fn each_left_row_has_its_right_rows(rt: HostRuntime) -> Result<(), Fail> {
-    let (trail, found) = read(rt.alloc(), b"SELECT * FROM t JOIN u ON t.a = u.b")?;
+    let mut trail = Items::new(rt.alloc());
+    let found = read(
+        rt.alloc(),
+        b"SELECT * FROM t JOIN u ON t.a = u.b",
+        &mut trail,
+    )?;
     assert_eq!(rt;
         trail.as_slice(),
         [1026, 2, 1026, 2, 1028, 2, 2, 1029, 2, 1029].as_slice()
@@ -175,7 +204,8 @@ fn each_left_row_has_its_right_rows(rt: HostRuntime) -> Result<(), Fail> {
 
 #[test]
 fn a_table_that_there_is_not_has_no_rows(rt: HostRuntime) -> Result<(), Fail> {
-    let (trail, found) = read(rt.alloc(), b"DELETE FROM v WHERE c = 1")?;
+    let mut trail = Items::new(rt.alloc());
+    let found = read(rt.alloc(), b"DELETE FROM v WHERE c = 1", &mut trail)?;
     assert_eq!(rt; trail.as_slice(), [1026].as_slice());
     assert_eq!(rt; found, Some((0, 0)));
     Ok(())

@@ -1,0 +1,4 @@
+pub mod ExampleLaws
+pub mod LeafLaws
+pub mod MeetingLaws
+pub mod VerdictLaws

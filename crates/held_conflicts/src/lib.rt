@@ -1,0 +1,6 @@
+//! What a test of keys tells over pages that hold a store of versions is the store's verdict.
+#![tactic(auto)]
+
+mod laws;
+
+pub use laws::{example_laws, verdict_laws};
