@@ -1,3 +1,4 @@
+pub mod EndLaws
 pub mod ExampleLaws
 pub mod LeafLaws
 pub mod MeetingLaws

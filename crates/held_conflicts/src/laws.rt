@@ -1,4 +1,5 @@
 //! Laws of verdicts on keys.
+ghost use Rattle.held_conflicts.specs.Ending.{TestsEnd};
 ghost use Rattle.held_conflicts.specs.Example.{ExampleTests};
 ghost use Rattle.held_conflicts.specs.Verdicts.{ChangesAreTaken, TestsTellVerdicts};
 
@@ -7,6 +8,11 @@ ghost use Rattle.held_conflicts.specs.Verdicts.{ChangesAreTaken, TestsTellVerdic
 pub fn verdict_laws()
     ensures tested { TestsTellVerdicts }
     ensures taken { ChangesAreTaken }
+{}
+
+/// A test of keys ends over pages that hold a store. It does nothing when it is run.
+pub fn ending_laws()
+    ensures { TestsEnd }
 {}
 
 /// Two tests over a table with one row of two versions: what each tells, by computation. It does

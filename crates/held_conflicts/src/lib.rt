@@ -3,4 +3,4 @@
 
 mod laws;
 
-pub use laws::{example_laws, verdict_laws};
+pub use laws::{ending_laws, example_laws, verdict_laws};
