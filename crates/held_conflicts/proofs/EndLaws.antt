@@ -1,12 +1,11 @@
 -- A test of keys ends over pages that hold a store.
-use Rattle.std.proofs.Common.{◌≡◌, ◌<◌, ◌≤◌, ◌&&◌, ◌-◌, ℕ, zero, suc, Bool, true, false, not, nat_eq, nat_le, List, [], ◌∷◌, length, Option, Some, None, ◌⊎◌, inl, inr, refl, sym, ◌∙◌, ap, subst, arith}
+use Rattle.std.proofs.Common.{◌≡◌, ◌<◌, ◌≤◌, ◌&&◌, ℕ, zero, suc, Bool, true, false, not, nat_eq, List, [], ◌∷◌, length, Option, Some, None, ◌⊎◌, inl, inr, refl, sym, ◌∙◌, ap, subst, arith}
 use Rattle.std.proofs.lemmas.Bool.{cases_lt}
 use Rattle.rm_base.specs.declared.limits.TheConstants.{MAX_TRX_ID}
 use Rattle.page_image.specs.Image.{Image}
 use Rattle.page_image.specs.declared.kind.Kind.{Kind}
 use Rattle.page_image.specs.declared.kind.Kind.TheVariants as kind
 use Rattle.page_view.specs.declared.leaf.LeafItem.{LeafItem}
-use Rattle.bplus_tree.specs.Tree.{Tree}
 use Rattle.bplus_tree.specs.Walk.{Answers}
 use Rattle.bplus_tree.proofs.Descending.{Steps}
 use Rattle.commit_stamps.specs.Stamping.{IsStampPage, stamp_in, stamp_page, visible}
@@ -21,16 +20,13 @@ use Rattle.range_reader.specs.Finding.{Fits, has_stamp}
 use Rattle.range_reader.specs.Walked.{child_in}
 use Rattle.range_reader.proofs.StepLaws.{leads_in}
 use Rattle.held_versions.specs.Counting.{HasStamps}
-use Rattle.held_versions.specs.Holds.{Holds}
-use Rattle.held_versions.specs.Undoing.{first_of}
-use Rattle.held_versions.specs.Versions.{Has, of_key}
 use Rattle.key_conflicts.specs.declared.verdict.Met.{Met}
 use Rattle.key_conflicts.specs.declared.verdict.Tested.{Tested}
 use Rattle.key_conflicts.specs.Testing.{Key, down, down_by, item_of, met, stamp_by, look_by, look_at, look_in, test_key, test_from, test_keys, with_key, nothing_known}
 use Rattle.held_conflicts.specs.Ending.{EndsWith, TestsEnd}
-use Rattle.held_conflicts.specs.Verdicts.{IsTableRoot, Stand}
+use Rattle.held_conflicts.specs.Verdicts.{Stand}
 use Rattle.held_conflicts.proofs.LeafLaws.{Sought, sought}
-use Rattle.held_conflicts.proofs.MeetingLaws.{Newest, IsNewest}
+use Rattle.held_conflicts.proofs.MeetingLaws.{IsNewest}
 use Rattle.held_conflicts.proofs.VerdictLaws.{RowsOf, rows_of_root, tests_tell_verdicts}
 
 -- ---- works that end
@@ -134,8 +130,7 @@ key_ends pages S stamps held root items rows s key =
     let look : Ends pages (look_at s (item_of key (pages f.leaf).items)) =
     version_ends rows.Says pages S stamps held root key s (item_of key (pages f.leaf).items)
     (subst (λ (o : Option LeafItem). IsNewest rows.Says pages o (S.rows root key)) (sym f.has) (rows.newest key)) in
-    let answers = here_answers pages root key f.way f.leaf f.steps in
-    (
+    let answers = here_answers pages root key f.way f.leaf f.steps in (
       look.0,
       (
         (answers.1, answers.0),

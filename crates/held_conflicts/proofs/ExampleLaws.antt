@@ -11,13 +11,12 @@ use Rattle.bplus_tree.specs.Walk.{IsLeafToRead}
 use Rattle.question_tree.specs.Questions.{Gives}
 use Rattle.range_reader.specs.Finding.{Fits}
 use Rattle.sql_database.specs.Catalog.{schema_row}
-use Rattle.version_store.specs.Stores.{catalog}
 use Rattle.held_versions.specs.Example.{items, pages, root, schema, store, table_version}
 use Rattle.held_versions.specs.Trees.{IsRoot}
 use Rattle.held_versions.proofs.Witness.{example_holds}
 use Rattle.key_conflicts.specs.Testing.{down, item_of, test_from, test_keys}
 use Rattle.held_conflicts.specs.Example.{key, writer, uses, own_uses, in_its_way, free_to_write, ExampleTests}
-use Rattle.held_conflicts.specs.Verdicts.{HasTable, IsTableRoot, Stand}
+use Rattle.held_conflicts.specs.Verdicts.{HasTable, Stand}
 use Rattle.held_conflicts.proofs.VerdictLaws.{tests_tell_verdicts}
 
 -- ---- the leaf of the table
@@ -65,5 +64,5 @@ example_tests = record {
   own_tells = own_tells;
   verdict = tests_tell_verdicts items pages store example_holds root (inr table) (writer None) (key ∷ []) uses in_its_way stand tells;
   own_verdict =
-    tests_tell_verdicts items pages store example_holds root (inr table) (writer (Some 2)) (key ∷ []) own_uses free_to_write own_stand own_tells;
+      tests_tell_verdicts items pages store example_holds root (inr table) (writer (Some 2)) (key ∷ []) own_uses free_to_write own_stand own_tells;
 }

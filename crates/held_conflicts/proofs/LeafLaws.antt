@@ -99,10 +99,10 @@ sought pages root items tree key =
       steps = d.4;
       short = omega (arith, d.5, tree.low_enough);
       has =
-        ap (λ (p : ℕ). item_of key (pages p).items) (sym same)
-        ∙ (sym (before key (pages f.leaf).items f.right f.more)
-        ∙ (sym (past key f.left ((pages f.leaf).items ++ f.right) f.less)
-        ∙ (ap (item_of key) (sym f.stands) ∙ is_first key items)));
+          ap (λ (p : ℕ). item_of key (pages p).items) (sym same)
+          ∙ (sym (before key (pages f.leaf).items f.right f.more)
+          ∙ (sym (past key f.left ((pages f.leaf).items ++ f.right) f.less)
+          ∙ (ap (item_of key) (sym f.stands) ∙ is_first key items)));
     }
 
 -- so it is with the leaf to which uses lead that stand as they are

@@ -1,9 +1,8 @@
 -- What is met in a key's item is what the store has of its newest version.
-use Rattle.std.proofs.Common.{◌≡◌, ◌≤◌, ◌&&◌, ◌||◌, ℕ, Bool, true, false, not, is_some, nat_eq, nat_le, List, [], ◌∷◌, Option, Some, None, inl, inr, refl, sym, ◌∙◌, ap, subst}
+use Rattle.std.proofs.Common.{◌≡◌, ◌≤◌, ◌&&◌, ◌||◌, ℕ, Bool, true, false, not, is_some, nat_eq, nat_le, List, [], ◌∷◌, Option, Some, None, inl, inr, refl, sym, ◌∙◌, ap}
 use Rattle.rm_base.specs.declared.limits.TheConstants.{MAX_TRX_ID}
 use Rattle.page_image.specs.Image.{Image}
 use Rattle.page_view.specs.declared.leaf.LeafItem.{LeafItem}
-use Rattle.page_view.specs.Leaf.{leaf_of}
 use Rattle.commit_stamps.specs.Stamping.{stamp_in, stamp_page, visible}
 use Rattle.sql_values.specs.declared.schemas.Schema.{Schema}
 use Rattle.version_store.specs.Stores.{Store}
@@ -88,9 +87,9 @@ meets_newest Says life pages S stamps s (Some item) vs [] m h stand met =
     let own : is_own s.own h.version.trx ≡ true = ap (is_own s.own) h.has.trx ∙ met.0 in
     record {
       clash =
-        ap (λ (x : Met). x.clash) met.1
-        ∙ sym (ap (λ (xs : List Version). in_the_way xs S.stamp s.stamp s.own) h.are
-        ∙ none_way (is_own s.own h.version.trx) (nat_eq (S.stamp h.version.trx) 0 || not (nat_le (S.stamp h.version.trx) s.stamp)) own);
+          ap (λ (x : Met). x.clash) met.1
+          ∙ sym (ap (λ (xs : List Version). in_the_way xs S.stamp s.stamp s.own) h.are
+          ∙ none_way (is_own s.own h.version.trx) (nat_eq (S.stamp h.version.trx) 0 || not (nat_le (S.stamp h.version.trx) s.stamp)) own);
       there = ap (λ (x : Met). x.there) met.1 ∙ (life item h.version h.has.says ∙ sym (ap has_row h.are));
     }
 meets_newest Says life pages S stamps s (Some item) vs (u ∷ us) m h stand met =
@@ -103,8 +102,8 @@ meets_newest Says life pages S stamps s (Some item) vs (u ∷ us) m h stand met 
     let there : ℕ → Bool = λ t. not (is_own s.own t) && (nat_eq (S.stamp t) 0 || not (nat_le (S.stamp t) s.stamp)) in
     record {
       clash =
-        way
-        ∙ (sym (ap (λ (o : Bool). not o && (nat_eq (S.stamp item.trx) 0 || not (nat_le (S.stamp item.trx) s.stamp))) up.other)
-        ∙ (ap there (sym h.has.trx) ∙ sym (ap (λ (xs : List Version). in_the_way xs S.stamp s.stamp s.own) h.are)));
+          way
+          ∙ (sym (ap (λ (o : Bool). not o && (nat_eq (S.stamp item.trx) 0 || not (nat_le (S.stamp item.trx) s.stamp))) up.other)
+          ∙ (ap there (sym h.has.trx) ∙ sym (ap (λ (xs : List Version). in_the_way xs S.stamp s.stamp s.own) h.are)));
       there = met.2 ∙ (life item h.version h.has.says ∙ sym (ap has_row h.are));
     }

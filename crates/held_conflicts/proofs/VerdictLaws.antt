@@ -1,17 +1,15 @@
 -- A test of keys tells the store's verdict.
-use Rattle.std.proofs.Common.{◌≡◌, ℕ, Bool, true, false, if◌then◌else◌, bytes_eq, List, [], ◌∷◌, ◌++◌, filter, slice_get, Option, Some, None, inl, inr, refl, sym, ◌∙◌, ap, subst, append_assoc}
-use Rattle.std.specs.List.{AllByRecursion}
+use Rattle.std.proofs.Common.{◌≡◌, ℕ, Bool, if◌then◌else◌, List, [], ◌∷◌, ◌++◌, filter, slice_get, Option, inl, inr, refl, sym, ◌∙◌, ap, subst, append_assoc}
 use Rattle.page_image.specs.Image.{Image}
 use Rattle.page_view.specs.declared.leaf.LeafItem.{LeafItem}
 use Rattle.bplus_tree.specs.Tree.{Tree}
 use Rattle.bplus_tree.proofs.Order.{all_left, all_right}
 use Rattle.sql_database.specs.Catalog.{schema_of}
-use Rattle.sql_database.specs.declared.changes.Change.{Change}
-use Rattle.version_store.specs.Contents.{at_root, catalog_name, found, newest_root}
+use Rattle.version_store.specs.Contents.{at_root, catalog_name, newest_root}
 use Rattle.version_store.specs.Stores.{Store, catalog}
 use Rattle.version_store.specs.Versions.{Version, seen_root}
 use Rattle.version_store.proofs.Places.{bytes_of}
-use Rattle.history.specs.Clusters.{in_the_way, is_taken}
+use Rattle.history.specs.Clusters.{in_the_way}
 use Rattle.range_reader.specs.declared.fetch.Snapshot.{Snapshot}
 use Rattle.held_versions.specs.Counting.{HasStamps}
 use Rattle.held_versions.specs.Holds.{Holds}
@@ -19,11 +17,10 @@ use Rattle.held_versions.specs.Tables.{SaysRow, SaysTable}
 use Rattle.held_versions.specs.Undoing.{first_of}
 use Rattle.held_versions.specs.Versions.{VersionsAt, of_key}
 use Rattle.key_conflicts.specs.declared.verdict.Met.{Met}
-use Rattle.key_conflicts.specs.declared.verdict.Tested.{Tested}
-use Rattle.key_conflicts.specs.Judged.{EachTested, KeyTested, IsLeastOf, those, clashing, standing}
+use Rattle.key_conflicts.specs.Judged.{EachTested, KeyTested, IsLeastOf, clashing, standing}
 use Rattle.key_conflicts.specs.Testing.{Key, item_of}
 use Rattle.key_conflicts.proofs.JudgedLaws.{tells_judged}
-use Rattle.held_conflicts.specs.Verdicts.{HasTable, IsTableRoot, Stand, clashes, has_row, is_there, IsVerdict, TestsTellVerdicts, TakenAtRoot, ChangesAreTaken}
+use Rattle.held_conflicts.specs.Verdicts.{IsTableRoot, Stand, clashes, is_there, TestsTellVerdicts, ChangesAreTaken}
 use Rattle.held_conflicts.proofs.LeafLaws.{leaf_has}
 use Rattle.held_conflicts.proofs.MeetingLaws.{IsNewest, newest, SaysLife, table_lives, row_lives, IsMet, meets_newest}
 
@@ -88,11 +85,11 @@ those_met pages S root items stamps h s (key ∷ keys) us ms stand each =
     let rest = those_met pages S root items stamps h s keys each.1 each.3 (all_right P each.0 each.1 all) each.6 in
     record {
       clash =
-        ap (clashing (key ∷ keys)) each.7
-        ∙ picked each.2.clash (clashes S root s key) key (clashing keys each.3) (filter (clashes S root s) keys) here.clash rest.clash;
+          ap (clashing (key ∷ keys)) each.7
+          ∙ picked each.2.clash (clashes S root s key) key (clashing keys each.3) (filter (clashes S root s) keys) here.clash rest.clash;
       there =
-        ap (standing (key ∷ keys)) each.7
-        ∙ picked each.2.there (is_there S root key) key (standing keys each.3) (filter (is_there S root) keys) here.there rest.there;
+          ap (standing (key ∷ keys)) each.7
+          ∙ picked each.2.there (is_there S root key) key (standing keys each.3) (filter (is_there S root) keys) here.there rest.there;
     }
 
 pub tests_tell_verdicts : TestsTellVerdicts
