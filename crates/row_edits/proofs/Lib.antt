@@ -1,0 +1,5 @@
+pub mod LeafLaws
+pub mod RoomLaws
+pub mod PlanLaws
+pub mod WayLaws
+pub mod StageLaws

@@ -1,0 +1,26 @@
+//! What is changed, and the pages that a change stands on.
+
+use page_image::Page;
+use page_view::LeafItem;
+use redo_record::Path;
+use rm_base::{PageId, SessionId};
+
+/// A change of a row: the session, the root of the tree, and the item that comes to stand for its key,
+/// but for its pointer to the version before.
+#[derive(Drop)]
+pub struct RowChange {
+    pub session: SessionId,
+    pub root: PageId,
+    pub item: LeafItem,
+}
+
+/// What the plan of a row's change stands on: the change, the way to its leaf, the meta page, the undo
+/// page in use, and the slots page.
+#[derive(Drop)]
+pub struct RowGround {
+    pub change: RowChange,
+    pub path: Path,
+    pub meta: Page,
+    pub undo: Page,
+    pub slots: Page,
+}

@@ -1,0 +1,20 @@
+//! One change of a leaf as a machine that asks for pages and hands out plans: the change of a row, with
+//! the splits that it needs, and the undo of one.
+#![tactic(auto)]
+
+mod changes;
+mod leaf_items;
+mod leaf_plans;
+mod room;
+mod row_edit;
+mod row_plans;
+mod row_stages;
+mod stepping;
+mod wishes;
+
+pub use changes::{RowChange, RowGround};
+pub use room::Room;
+pub use row_edit::RowEdit;
+pub use row_stages::{MOST_SPLITS, RowStage, RowTask};
+pub use stepping::{WAY_PAGES, Walk};
+pub use wishes::{Act, Edited, Fetch};
