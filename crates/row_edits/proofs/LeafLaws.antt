@@ -47,7 +47,7 @@ has_found leaf key place e = (place, e)
 pub has_none : (leaf : Image) (key : List ℕ) (n : ℕ) → LessBelow (keys_of leaf.items) n key → GreaterFrom (keys_of leaf.items) n key → ¬ HasKey key leaf
 has_none leaf key n less greater has = not_there (keys_of leaf.items) key n has.0 less greater has.1
 
-some_old : (leaf : Image) (key : List ℕ) (place : ℕ) → HasRows leaf → slice_get (keys_of leaf.items) place ≡ Some key → old_in leaf key ≡ Some (leaf_of (get_or leaf.items place []))
+pub some_old : (leaf : Image) (key : List ℕ) (place : ℕ) → HasRows leaf → slice_get (keys_of leaf.items) place ≡ Some key → old_in leaf key ≡ Some (leaf_of (get_or leaf.items place []))
 unfolding old_in
 some_old leaf key place rows e = ap first_of (with_key_found key leaf.items place rows.ascend e).1
 

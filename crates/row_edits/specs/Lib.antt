@@ -5,3 +5,8 @@ pub mod Ways
 pub mod RowEdits
 pub mod RowGrounds
 pub mod RowStages
+pub mod BackPlans
+pub mod BackEdits
+pub mod BackGrounds
+pub mod BackStages
+pub mod Laws

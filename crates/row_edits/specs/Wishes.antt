@@ -8,19 +8,22 @@ use Rattle.bplus_tree.specs.Walk.{IsToRead}
 use Rattle.redo_record.specs.declared.plans.Plan.{Plan}
 use Rattle.tree_change.specs.Way.{IsWayTo}
 use Rattle.question_tree.specs.Questions.{Ask, tells, asks, stops}
+use Rattle.row_edits.specs.declared.changes.BackGround.{BackGround}
 use Rattle.row_edits.specs.declared.changes.RowGround.{RowGround}
 use Rattle.row_edits.specs.declared.wishes.Act.{Act}
 use Rattle.row_edits.specs.declared.wishes.Act.TheVariants as act
 use Rattle.row_edits.specs.declared.wishes.Fetch.{Fetch}
 use Rattle.row_edits.specs.declared.wishes.Fetch.TheVariants as fetch
 use Rattle.row_edits.specs.Rooms.{IsSplitFor}
+use Rattle.row_edits.specs.BackPlans.{IsBackPlan}
 use Rattle.row_edits.specs.RowPlans.{IsRowPlan}
 
 -- what a plan is to do, with what it stands on: the first page without room on the way of an item is
--- split; or a row is changed
+-- split; a row is changed; or a change is undone
 pub data Aim : Type 0 where
   Splits : LeafItem → List Image → Image → Aim
   Changes : RowGround → Aim
+  TakesBack : BackGround → Aim
 
 -- what is asked for: the next page on the way to a key, behind those that were read; the undo page
 -- with a number; the slots page; the meta page; or that a plan is run
@@ -66,6 +69,7 @@ Asked stops x = ⊥
 abbrev pub IsPlanFor : Aim → Plan → Type 0
 IsPlanFor (Splits item path meta) plan = IsSplitFor item path meta plan
 IsPlanFor (Changes ground) plan = IsRowPlan ground plan
+IsPlanFor (TakesBack ground) plan = IsBackPlan ground plan
 
 -- a way begins with a root, and goes on with children
 abbrev pub step_to : List Image → ℕ → Fetch

@@ -4,6 +4,7 @@ use page_image::Page;
 use page_view::LeafItem;
 use redo_record::Path;
 use rm_base::{PageId, SessionId};
+use undo_versions::UndoItem;
 
 /// A change of a row: the session, the root of the tree, and the item that comes to stand for its key,
 /// but for its pointer to the version before.
@@ -22,5 +23,15 @@ pub struct RowGround {
     pub path: Path,
     pub meta: Page,
     pub undo: Page,
+    pub slots: Page,
+}
+
+/// What the plan that undoes a change stands on: the session, the undo item, the way to its leaf, and the
+/// slots page.
+#[derive(Drop)]
+pub struct BackGround {
+    pub session: SessionId,
+    pub undo: UndoItem,
+    pub path: Path,
     pub slots: Page,
 }

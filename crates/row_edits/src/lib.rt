@@ -2,7 +2,11 @@
 //! the splits that it needs, and the undo of one.
 #![tactic(auto)]
 
+mod back_edit;
+mod back_plans;
+mod back_stages;
 mod changes;
+mod laws;
 mod leaf_items;
 mod leaf_plans;
 mod room;
@@ -12,9 +16,12 @@ mod row_stages;
 mod stepping;
 mod wishes;
 
-pub use changes::{RowChange, RowGround};
+pub use back_edit::BackEdit;
+pub use back_stages::{BackStage, BackTask};
+pub use changes::{BackGround, RowChange, RowGround};
+pub use laws::edit_laws;
 pub use room::Room;
 pub use row_edit::RowEdit;
 pub use row_stages::{MOST_SPLITS, RowStage, RowTask};
 pub use stepping::{WAY_PAGES, Walk};
-pub use wishes::{Act, Edited, Fetch};
+pub use wishes::{Act, Edited, Fetch, Taken};

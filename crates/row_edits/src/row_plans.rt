@@ -137,7 +137,7 @@ fn made_list(made: Option<PageId>) -> PageList
 }
 
 /// The records of the leaf, of the undo item, of the slot and of the meta page in one plan.
-fn joined(
+pub(crate) fn joined(
     alloc: Global,
     ground: &RowGround,
     put: Plan,

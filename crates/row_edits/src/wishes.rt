@@ -1,7 +1,7 @@
 //! What a change asks for, and what it tells.
 
 use redo_record::Plan;
-use rm_base::PageId;
+use rm_base::{PageId, UndoPtr};
 
 /// A page that is wanted next, and how the one before it is held meanwhile.
 #[derive(Clone, Copy, Debug, PartialEq, Eq)]
@@ -32,4 +32,13 @@ pub enum Edited {
     Made,
     /// A page was needed, and none can be made.
     SpaceFull,
+}
+
+/// What became of the undo of a change.
+#[derive(Clone, Copy, Debug, PartialEq, Eq)]
+pub enum Taken {
+    /// Its plan was run. The change before it stands there.
+    Back(UndoPtr),
+    /// A page was needed, and none can be made: it is to be tried again.
+    Again,
 }
