@@ -18,7 +18,7 @@ use Rattle.row_edits.specs.BackEdits as back
 use Rattle.row_edits.specs.BackEdits.{BackWork, room_back}
 use Rattle.row_edits.specs.Rooms.{by, room_of}
 use Rattle.row_edits.specs.RowEdits.{RowWork, arrived, by_room, changing, grounded, is_page, row, row_work, slots_wanted}
-use Rattle.row_edits.specs.RowPlans.{has_undo_room}
+use Rattle.row_edits.specs.RowPlans.{has_pages}
 use Rattle.row_edits.specs.Ways.{way}
 use Rattle.row_edits.specs.Wishes.{Wish, Input, Handed, Ran, Steps, ReadsUndo, ReadsSlots, ReadsMeta, Runs, Splits, Changes, TakesBack, page_in}
 use Rattle.row_edits.specs.Laws.{Given, nothing, with_step, with_meta, with_undo, with_slots, IsOneChange, ChangesOnce, IsOneUndo, IsUndoOf, ReadsItem, UndoesOnce}
@@ -40,7 +40,7 @@ row_way (suc n) change path page k h = (refl, refl, (λ im. go (is_leaf im.kind)
     go true im here below = here
     go false im here below = below
 
-slots_by : (change : RowChange) (path : List Image) (meta undo slots : Image) (b : Bool) → has_undo_room (grounded change path meta undo slots) ≡ b
+slots_by : (change : RowChange) (path : List Image) (meta undo slots : Image) (b : Bool) → has_pages (grounded change path meta undo slots) ≡ b
     → IsOneChange change (record { path = path; meta = Some meta; undo = Some undo; slots = Some slots })
     (by b (changing (grounded change path meta undo slots)) (tells edited.SpaceFull))
 slots_by change path meta undo slots true e = (refl, refl, refl, refl, refl, refl)
@@ -49,7 +49,7 @@ slots_by change path meta undo slots false e = inr (meta, undo, slots, refl, ref
 undo_by : (change : RowChange) (path : List Image) (meta : Image) (b : Bool)
     → IsOneChange change (record { path = path; meta = Some meta; undo = None; slots = None })
     (by b (asks (ReadsUndo (counters_of meta).undo_page) (λ x. slots_wanted change path meta (page_in x))) stops)
-undo_by change path meta true = λ undo slots. slots_by change path meta undo slots (has_undo_room (grounded change path meta undo slots)) refl
+undo_by change path meta true = λ undo slots. slots_by change path meta undo slots (has_pages (grounded change path meta undo slots)) refl
 undo_by change path meta false = tt
 
 room_by : (again : RowWork) (change : RowChange) (path : List Image) (meta : Image) (r : Room) → room_of change.item path meta ≡ r

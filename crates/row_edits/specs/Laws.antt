@@ -12,7 +12,7 @@ use Rattle.row_edits.specs.declared.wishes.Taken.TheVariants as taken
 use Rattle.row_edits.specs.BackEdits.{BackWork, older, room_back, undo_wanted}
 use Rattle.row_edits.specs.Rooms.{room_of}
 use Rattle.row_edits.specs.RowEdits.{RowWork, grounded, row_work}
-use Rattle.row_edits.specs.RowPlans.{has_undo_room}
+use Rattle.row_edits.specs.RowPlans.{has_pages}
 use Rattle.row_edits.specs.Wishes.{Wish, Input, Handed, Ran, Steps, ReadsUndo, ReadsSlots, ReadsMeta, Runs, Splits, Changes, TakesBack}
 
 -- the pages that were given since the change began at its root: those of the way, and the last meta,
@@ -38,12 +38,12 @@ with_undo given im = record { path = given.path; meta = given.meta; undo = Some 
 abbrev pub with_slots : Given → Image → Given
 with_slots given im = record { path = given.path; meta = given.meta; undo = given.undo; slots = Some im }
 
--- no page is left for a split, or none for the undo item
+-- no page is left for a split, or none for the undo item or the root of a table
 abbrev pub LacksPage : RowChange → Given → Type 0
 LacksPage change given =
     ((meta : Image) × (given.meta ≡ Some meta) × (room_of change.item given.path meta ≡ room.Full))
     ⊎ ((meta undo slots : Image) × (given.meta ≡ Some meta) × (given.undo ≡ Some undo)
-    × (given.slots ≡ Some slots) × (has_undo_room (grounded change given.path meta undo slots) ≡ false))
+    × (given.slots ≡ Some slots) × (has_pages (grounded change given.path meta undo slots) ≡ false))
 
 -- A row's change asks for the pages of the way to its key, each behind those that it was given. It
 -- splits for its own item alone, by the way and the meta page that it was given, and begins at the

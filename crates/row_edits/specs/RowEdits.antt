@@ -17,7 +17,7 @@ use Rattle.row_edits.specs.declared.wishes.Fetch.TheVariants as fetch
 use Rattle.row_edits.specs.declared.wishes.Edited.{Edited}
 use Rattle.row_edits.specs.declared.wishes.Edited.TheVariants as edited
 use Rattle.row_edits.specs.Rooms.{by, room_of}
-use Rattle.row_edits.specs.RowPlans.{has_undo_room}
+use Rattle.row_edits.specs.RowPlans.{has_pages}
 use Rattle.row_edits.specs.Ways.{way}
 use Rattle.row_edits.specs.Wishes.{Wish, Input, ReadsUndo, ReadsSlots, ReadsMeta, Runs, Changes, Splits, page_in}
 
@@ -31,9 +31,9 @@ is_page n = nat_le n MAX_PAGE_ID
 abbrev pub changing : RowGround → RowWork
 changing ground = asks (Runs (Changes ground)) (λ y. tells edited.Made)
 
--- where a page for the undo item is needed, one has to be left
+-- where pages are needed, for the undo item or for the root of a table, they have to be left
 abbrev pub with_slots : RowGround → RowWork
-with_slots ground = by (has_undo_room ground) (changing ground) (tells edited.SpaceFull)
+with_slots ground = by (has_pages ground) (changing ground) (tells edited.SpaceFull)
 
 abbrev pub grounded : RowChange → List Image → Image → Image → Image → RowGround
 grounded change path meta undo slots =

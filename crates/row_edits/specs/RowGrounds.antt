@@ -3,8 +3,6 @@ use Rattle.std.specs.Prelude.{◌≡◌, Bool, true, List}
 use Rattle.page_image.specs.declared.kind.Kind.TheVariants as kind
 use Rattle.page_image.specs.Image.{Image}
 use Rattle.page_image.specs.Meta.{IsMeta, IsSlots}
-use Rattle.page_view.specs.declared.leaf.LeafItem.{LeafItem}
-use Rattle.page_view.specs.Leaf.{IsLeaf}
 use Rattle.tree_change.specs.Way.{IsWayTo}
 use Rattle.row_edits.specs.declared.changes.RowChange.{RowChange}
 use Rattle.row_edits.specs.declared.changes.RowGround.{RowGround}
@@ -12,23 +10,23 @@ use Rattle.row_edits.specs.declared.room.Room.TheVariants as room
 use Rattle.row_edits.specs.declared.row_stages.RowStage.{RowStage}
 use Rattle.row_edits.specs.declared.row_stages.RowStage.TheVariants as stage
 use Rattle.row_edits.specs.Rooms.{has_room, room_of}
-use Rattle.row_edits.specs.RowPlans.{has_undo_room}
+use Rattle.row_edits.specs.RowPlans.{IsChange, has_pages}
 
 -- the way to the item's leaf was read
-pub record IsArrived (item : LeafItem) (path : List Image) : Type 0 where
-  pub leaf : IsLeaf item
-  pub way : IsWayTo item.key path
+pub record IsArrived (change : RowChange) (path : List Image) : Type 0 where
+  pub is : IsChange change
+  pub way : IsWayTo change.item.key path
 
 -- a page on it is to be split, and can be
-pub record IsToSplit (item : LeafItem) (path : List Image) (meta : Image) : Type 0 where
-  pub leaf : IsLeaf item
-  pub way : IsWayTo item.key path
+pub record IsToSplit (change : RowChange) (path : List Image) (meta : Image) : Type 0 where
+  pub is : IsChange change
+  pub way : IsWayTo change.item.key path
   pub is_meta : IsMeta meta
-  pub split : room_of item path meta ≡ room.Split
+  pub split : room_of change.item path meta ≡ room.Split
 
 -- each page on it has room
 pub record IsRoomy (change : RowChange) (path : List Image) (meta : Image) : Type 0 where
-  pub leaf : IsLeaf change.item
+  pub is : IsChange change
   pub way : IsWayTo change.item.key path
   pub is_meta : IsMeta meta
   pub room : has_room change.item path ≡ true
@@ -38,12 +36,12 @@ pub record IsRowGround (ground : RowGround) : Type 0 where
   pub roomy : IsRoomy ground.change ground.path ground.meta
   pub undo : ground.undo.kind ≡ kind.Undo
   pub slots : IsSlots ground.slots
-  pub space : has_undo_room ground ≡ true
+  pub space : has_pages ground ≡ true
 
 abbrev pub Stands : RowStage → Type 0
-Stands (stage.Down task walk) = IsLeaf task.change.item
-Stands (stage.Arrived task path) = IsArrived task.change.item path
-Stands (stage.Splitting task path meta) = IsToSplit task.change.item path meta
+Stands (stage.Down task walk) = IsChange task.change
+Stands (stage.Arrived task path) = IsArrived task.change path
+Stands (stage.Splitting task path meta) = IsToSplit task.change path meta
 Stands (stage.Undo change path meta) = IsRoomy change path meta
 Stands (stage.Slots change path meta undo) = IsRoomy change path meta × (undo.kind ≡ kind.Undo)
 Stands (stage.Changing ground) = IsRowGround ground

@@ -7,12 +7,14 @@ use rm_base::{PageId, SessionId};
 use undo_versions::UndoItem;
 
 /// A change of a row: the session, the root of the tree, and the item that comes to stand for its key,
-/// but for its pointer to the version before.
+/// but for its pointer to the version before. A row of the catalog may begin a table: `begins` is then
+/// the place in the item's value where the number of the table's root comes to stand.
 #[derive(Drop)]
 pub struct RowChange {
     pub session: SessionId,
     pub root: PageId,
     pub item: LeafItem,
+    pub begins: Option<u16>,
 }
 
 /// What the plan of a row's change stands on: the change, the way to its leaf, the meta page, the undo

@@ -1,6 +1,6 @@
 //! The change of a row.
 ghost use Rattle.std.specs.Prelude.{◌≡◌, IfOk};
-ghost use Rattle.page_view.specs.Leaf.{IsLeaf};
+ghost use Rattle.row_edits.specs.RowPlans.{IsChange};
 ghost use Rattle.question_tree.specs.Questions.{after, told};
 ghost use Rattle.row_edits.specs.RowEdits.{row_work};
 ghost use Rattle.row_edits.specs.RowStages.{work_of};
@@ -36,7 +36,7 @@ impl RowEdit {
     /// The change from its first page on. It takes no memory.
     #[tactic(auto, unfolding(crate::specs::RowEdits::row_work))]
     pub fn new(alloc: Global, change: RowChange) -> RowEdit
-        requires { IsLeaf change.item }
+        requires { IsChange change }
         ensures { work_of result ≡ row_work change }
     {
         RowEdit {

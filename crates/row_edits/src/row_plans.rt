@@ -1,7 +1,11 @@
 //! The plan of a row's change.
-ghost use Rattle.std.specs.Prelude.{◌≡◌, ◌≤◌, ◌++◌, ◌∷◌, [], length, true, IfOk, OnOk};
+ghost use Rattle.std.specs.Prelude.{◌≡◌, ◌≤◌, ◌+◌, ◌++◌, ◌∷◌, ◌↔◌, [], Some, length, true, IfOk, IsErr, OnOk};
 ghost use Rattle.page_image.specs.declared.kind.Kind.TheVariants as kind;
+ghost use Rattle.rm_base.specs.Fields.{field};
+ghost use Rattle.page_image.specs.Meta as counters;
 ghost use Rattle.page_image.specs.Meta.{IsMeta, IsSlots};
+ghost use Rattle.page_image.specs.Rules.{IsImage};
+ghost use Rattle.undo_versions.specs.Appending.{NeedsPage};
 ghost use Rattle.page_view.specs.Leaf.{IsLeaf};
 ghost use Rattle.page_view.specs.Undo.{IsUndo};
 ghost use Rattle.commit_stamps.specs.Effects.{Points};
@@ -9,17 +13,19 @@ ghost use Rattle.commit_stamps.specs.Plans.{points};
 ghost use Rattle.undo_versions.specs.Reading.{undone_of};
 ghost use Rattle.tree_change.specs.Way.{IsWayTo};
 ghost use Rattle.row_edits.specs.RowPlans as spec;
-ghost use Rattle.row_edits.specs.RowPlans.{CountsMade, IsRowPlan};
+ghost use Rattle.row_edits.specs.RowPlans.{CountsFor, CountsMade, IsRowPlan};
 ghost use Rattle.row_edits.specs.RowGrounds.{IsRowGround};
 
 use crate::changes::RowGround;
 use crate::leaf_items::{leaf_of, old_in};
 use crate::leaf_plans::put_in;
 use commit_stamps::{push_pointer, slot_of};
-use page_image::Page;
+use page_image::{Kind, PAGE_COUNT_AT, Page, page_count};
 use page_view::LeafItem;
-use redo_record::{Plan, PlanKind, Records};
-use rm_base::{Duplicate, PageId, PageList, UndoPtr, WantOfMemory};
+use redo_record::{Plan, PlanKind, Record, Records, TreeNo};
+use rm_base::{
+    Bytes, Duplicate, Items, MAX_PAGES, PageId, PageList, UndoPtr, WantOfMemory, push_u32, put_u32,
+};
 use std::alloc::Global;
 use undo_versions::{UndoItem, UndoStep, append_plan, push_undo_page};
 
@@ -46,19 +52,55 @@ fn undo_of(alloc: Global, ground: &RowGround) -> Result<UndoItem, WantOfMemory>
     })
 }
 
-/// Whether there is a page for the undo item.
-#[tactic(auto, using(crate::proofs::PlanLaws::undo_room))]
-pub(crate) fn has_undo_room(alloc: Global, ground: &RowGround) -> Result<bool, WantOfMemory>
+/// The page behind the one that is made for the undo item, or the next one by the meta page's count.
+fn next_page(meta: &Page, made: &Option<PageId>) -> u32
+    requires { meta.now.kind ≡ kind.Meta }
+    ensures { result ≡ spec.next_page meta.now made.now }
+{
+    match made {
+        None => page_count(meta),
+        Some(page) => page.number() + 1,
+    }
+}
+
+/// Whether there is a page for the root of a table, where one begins.
+fn has_root_room(begins: Option<u16>, root: u32) -> bool
+    ensures { result ≡ spec.has_root_room begins root }
+{
+    match begins {
+        None => true,
+        Some(_) => root < MAX_PAGES,
+    }
+}
+
+/// Whether there are pages for the undo item, which was planned, and for the root of a table.
+#[tactic(auto, using(crate::proofs::PlanLaws::pages_left, crate::proofs::PlanLaws::no_pages))]
+fn leaves_pages(ground: &RowGround, planned: Result<UndoStep, TreeNo>) -> bool
+    requires meta { IsMeta ground.now.meta }
+    requires full { IsErr planned ↔ (NeedsPage ground.now.undo (spec.undo_of ground.now)
+        × (MAX_PAGES ≤ counters.page_count ground.now.meta)) }
+    requires step { IfOk planned (λ step. step ≡ spec.step_of ground.now) }
+    ensures { result ≡ spec.has_pages ground.now }
+{
+    match planned {
+        Err(_) => false,
+        Ok(step) => has_root_room(ground.change.begins, next_page(&ground.meta, &step.made)),
+    }
+}
+
+/// Whether there are the pages that the change needs.
+#[tactic(auto, using(crate::proofs::PlanLaws::full_of, crate::proofs::PlanLaws::step_from))]
+pub(crate) fn has_pages(alloc: Global, ground: &RowGround) -> Result<bool, WantOfMemory>
     requires way { IsWayTo ground.now.change.item.key ground.now.path }
     requires item { IsLeaf ground.now.change.item }
     requires slots { IsSlots ground.now.slots }
     requires meta { IsMeta ground.now.meta }
     requires undo { ground.now.undo.kind ≡ kind.Undo }
-    ensures { IfOk result (λ room. room ≡ spec.has_undo_room ground.now) }
+    ensures { IfOk result (λ room. room ≡ spec.has_pages ground.now) }
 {
     let undo = undo_of(alloc, ground)?;
     let planned = append_plan(alloc, &ground.meta, &ground.undo, &undo)?;
-    Ok(planned.is_ok())
+    Ok(leaves_pages(ground, planned))
 }
 
 /// The item, with a pointer to the version before.
@@ -74,6 +116,56 @@ fn pointing(alloc: Global, item: &LeafItem, at: UndoPtr) -> Result<LeafItem, Wan
         older: at,
         value: item.value.copy(alloc)?,
     })
+}
+
+/// The item with the number of a root at a place of its value.
+#[tactic(auto, using(crate::proofs::PlanLaws::named_leaf))]
+fn named(item: LeafItem, place: u16, root: u32) -> LeafItem
+    requires leaf { IsLeaf item }
+    requires place { place + 4 ≤ length item.value }
+    ensures is { result ≡ spec.naming (Some place) root item }
+    ensures leaf { IsLeaf result }
+{
+    let LeafItem {
+        key,
+        deleted,
+        trx,
+        older,
+        value,
+    } = item;
+    let mut bytes = value.into_vec();
+    put_u32(bytes.as_mut_slice(), usize::from(place), root);
+    LeafItem {
+        key,
+        deleted,
+        trx,
+        older,
+        value: Items::from_vec(bytes),
+    }
+}
+
+/// The item, with the number of the root where a table begins.
+fn naming(item: LeafItem, begins: Option<u16>, root: u32) -> LeafItem
+    requires leaf { IsLeaf item }
+    requires place { spec.IsPlaceIn begins item.value }
+    ensures is { result ≡ spec.naming begins root item }
+    ensures leaf { IsLeaf result }
+{
+    match begins {
+        None => item,
+        Some(place) => named(item, place, root),
+    }
+}
+
+/// The root of the table that begins, if one does.
+fn begun(begins: Option<u16>, root: u32) -> Option<PageId>
+    requires { spec.has_root_room begins root ≡ true }
+    ensures { result ≡ spec.begun begins root }
+{
+    match begins {
+        None => None,
+        Some(_) => Some(PageId::new(root).unwrap()),
+    }
 }
 
 fn append(records: &mut Records, more: Records) -> Result<(), WantOfMemory>
@@ -102,54 +194,158 @@ fn count_made(
     }
 }
 
-/// The pages of the plan.
-fn with_undo_pages(pages: PageList, ground: &RowGround, made: &Option<PageId>) -> PageList
-    requires { length pages ≤ 5 }
-    ensures { result ≡ pages ++ spec.undo_pages ground.now made.now }
+/// Adds the record by which the meta page counts so many pages.
+fn push_count(
+    alloc: Global,
+    records: &mut Records,
+    meta: &Page,
+    count: u32,
+) -> Result<(), WantOfMemory>
+    ensures { OnOk result (records.new ≡ records.old ++ Record.Patch meta.now.page 36 (field 4 count) ∷ []) }
+{
+    let mut bytes = Bytes::new(alloc);
+    push_u32(&mut bytes, count)?;
+    records.push(Record::Patch {
+        page: meta.page(),
+        at: PAGE_COUNT_AT,
+        bytes,
+    })
+}
+
+/// A page keeps the rules of pages. It does nothing when it is run.
+fn keeps_rules(page: &Page)
+    ensures { IsImage page.now }
+{
+    let _bytes = page.bytes();
+}
+
+/// Adds the record that counts the root of a table, and the page that was made before it, if one was.
+fn count_root(
+    alloc: Global,
+    records: &mut Records,
+    meta: &Page,
+    root: PageId,
+    made: &Option<PageId>,
+) -> Result<(), WantOfMemory>
+    requires { IsMeta meta.now }
+    ensures ok { OnOk result (records.new ≡ records.old ++ spec.counts_for meta.now (Some root) made.now) }
+    ensures counts { CountsFor meta.now (Some root) made.now }
+{
+    keeps_rules(meta);
+    let count = root.number() + 1;
+    match made {
+        None => push_count(alloc, records, meta, count),
+        Some(page) => push_undo_page(alloc, records, meta, count, *page),
+    }
+}
+
+/// Adds the record that counts the pages that are made, if any are.
+fn count_pages(
+    alloc: Global,
+    records: &mut Records,
+    meta: &Page,
+    root: &Option<PageId>,
+    made: &Option<PageId>,
+) -> Result<(), WantOfMemory>
+    requires { IsMeta meta.now }
+    ensures ok { OnOk result (records.new ≡ records.old ++ spec.counts_for meta.now root.now made.now) }
+    ensures counts { CountsFor meta.now root.now made.now }
+{
+    match root {
+        None => count_made(alloc, records, meta, made),
+        Some(root) => count_root(alloc, records, meta, *root, made),
+    }
+}
+
+/// Adds the record that makes the root of a table, where one begins.
+fn make_root(records: &mut Records, root: &Option<PageId>) -> Result<(), WantOfMemory>
+    ensures { OnOk result (records.new ≡ records.old ++ spec.makes_root root.now) }
+{
+    match root {
+        None => Ok(()),
+        Some(root) => records.push(Record::Make {
+            page: *root,
+            kind: Kind::Leaf,
+            level: 0,
+        }),
+    }
+}
+
+/// The list, with the page behind it, if there is one.
+fn with_page(pages: PageList, page: &Option<PageId>) -> PageList
+    requires { length pages ≤ 6 }
+    ensures { result ≡ pages ++ spec.pages_of page.now }
 {
     let mut pages = pages;
-    match made {
-        None => {
-            pages.try_push(ground.undo.page()).unwrap();
-            pages.try_push(ground.slots.page()).unwrap();
-            pages
-        }
+    match page {
+        None => pages,
         Some(page) => {
             pages.try_push(*page).unwrap();
-            pages.try_push(ground.slots.page()).unwrap();
-            pages.try_push(ground.meta.page()).unwrap();
             pages
         }
     }
 }
 
-fn made_list(made: Option<PageId>) -> PageList
-    ensures { result ≡ spec.made_pages made }
+fn undo_page_of(ground: &RowGround, made: &Option<PageId>) -> PageId
+    ensures { result ≡ spec.undo_page_of ground.now made.now }
 {
-    let mut list = PageList::new();
     match made {
-        None => list,
-        Some(page) => {
-            list.try_push(page).unwrap();
-            list
-        }
+        None => ground.undo.page(),
+        Some(page) => *page,
     }
 }
 
-/// The records of the leaf, of the undo item, of the slot and of the meta page in one plan.
+/// The meta page, where a page is made.
+fn meta_page(ground: &RowGround, root: &Option<PageId>, made: &Option<PageId>) -> Option<PageId>
+    ensures { spec.pages_of result ≡ spec.meta_pages ground.now root.now made.now }
+{
+    if root.is_none() && made.is_none() {
+        return None;
+    }
+    Some(ground.meta.page())
+}
+
+/// The pages of the plan, behind those of the leaf.
+#[tactic(auto, using(crate::proofs::PlanLaws::one_or_none, crate::proofs::PlanLaws::pages_joined))]
+fn with_pages(
+    pages: PageList,
+    ground: &RowGround,
+    root: &Option<PageId>,
+    made: &Option<PageId>,
+) -> PageList
+    requires { length pages ≤ 3 }
+    ensures { result ≡ pages ++ spec.other_pages ground.now root.now made.now }
+{
+    let mut pages = with_page(pages, root);
+    pages.try_push(undo_page_of(ground, made)).unwrap();
+    pages.try_push(ground.slots.page()).unwrap();
+    with_page(pages, &meta_page(ground, root, made))
+}
+
+/// The pages that the plan makes.
+#[tactic(auto, using(crate::proofs::PlanLaws::one_or_none))]
+fn made_list(root: &Option<PageId>, made: &Option<PageId>) -> PageList
+    ensures { result ≡ spec.pages_of made.now ++ spec.pages_of root.now }
+{
+    with_page(with_page(PageList::new(), made), root)
+}
+
+/// The records of the leaf, of the root of a table, of the undo item, of the slot and of the meta page in
+/// one plan.
 pub(crate) fn joined(
     alloc: Global,
     ground: &RowGround,
+    root: &Option<PageId>,
     put: Plan,
     step: UndoStep,
 ) -> Result<Plan, WantOfMemory>
     requires meta { IsMeta ground.now.meta }
     requires slots { IsSlots ground.now.slots }
-    requires pages { length put.pages ≤ 5 }
-    ensures plan { IfOk result (λ plan. plan ≡ spec.joined ground.now put step) }
+    requires pages { length put.pages ≤ 3 }
+    ensures plan { IfOk result (λ plan. plan ≡ spec.joined_with ground.now root.now put step) }
     ensures pointed { IfOk result (λ _. Points ground.now.slots ground.now.change.session step.at
         (points ground.now.slots ground.now.change.session step.at ∷ [])) }
-    ensures counts { IfOk result (λ _. CountsMade ground.now.meta step.made) }
+    ensures counts { IfOk result (λ _. CountsFor ground.now.meta root.now step.made) }
 {
     let Plan {
         kind: _,
@@ -162,6 +358,7 @@ pub(crate) fn joined(
         records: of_undo,
         made,
     } = step;
+    make_root(&mut records, root)?;
     append(&mut records, of_undo)?;
     push_pointer(
         alloc,
@@ -170,24 +367,27 @@ pub(crate) fn joined(
         ground.change.session,
         at,
     )?;
-    count_made(alloc, &mut records, &ground.meta, &made)?;
+    count_pages(alloc, &mut records, &ground.meta, root, &made)?;
     Ok(Plan {
         kind: PlanKind::Change,
-        pages: with_undo_pages(pages, ground, &made),
-        made: made_list(made),
+        pages: with_pages(pages, ground, root, &made),
+        made: made_list(root, &made),
         records,
     })
 }
 
 /// The plan of the change.
-#[tactic(auto, using(crate::proofs::PlanLaws::is_row_plan, crate::proofs::PlanLaws::has_step, crate::proofs::PlanLaws::put_fits))]
+#[tactic(auto, using(crate::proofs::PlanLaws::is_row_plan, crate::proofs::PlanLaws::has_step, crate::proofs::PlanLaws::root_room, crate::proofs::PlanLaws::placed, crate::proofs::PlanLaws::put_page))]
 pub(crate) fn row_plan(alloc: Global, ground: &RowGround) -> Result<Plan, WantOfMemory>
     requires { IsRowGround ground.now }
     ensures { IfOk result (IsRowPlan ground.now) }
 {
     let undo = undo_of(alloc, ground)?;
     let step = append_plan(alloc, &ground.meta, &ground.undo, &undo)?.unwrap();
-    let item = pointing(alloc, &ground.change.item, step.at)?;
+    let next = next_page(&ground.meta, &step.made);
+    let root = begun(ground.change.begins, next);
+    let pointing = pointing(alloc, &ground.change.item, step.at)?;
+    let item = naming(pointing, ground.change.begins, next);
     let put = put_in(alloc, &ground.path, &item)?.unwrap();
-    joined(alloc, ground, put, step)
+    joined(alloc, ground, &root, put, step)
 }

@@ -1,6 +1,6 @@
 //! How far a row's change has come.
 ghost use Rattle.std.specs.Prelude.{◌≡◌, ◌<◌, IfOk};
-ghost use Rattle.page_view.specs.Leaf.{IsLeaf};
+ghost use Rattle.row_edits.specs.RowPlans.{IsChange};
 ghost use Rattle.tree_change.specs.Way.{IsWayTo};
 ghost use Rattle.page_image.specs.Meta.{IsMeta, IsSlots};
 ghost use Rattle.page_image.specs.declared.kind.Kind.TheVariants as kind;
@@ -13,7 +13,7 @@ ghost use Rattle.row_edits.specs.Wishes.{Asked, Does, Handed, Ran};
 
 use crate::changes::{RowChange, RowGround};
 use crate::room::{Room, room_of, split_plan};
-use crate::row_plans::{has_undo_room, row_plan};
+use crate::row_plans::{has_pages, row_plan};
 use crate::stepping::{Step, Walk, fetch_of, step_on, way_from};
 use crate::wishes::{Act, Edited, Fetch};
 use commit_stamps::undo_page;
@@ -55,7 +55,7 @@ pub enum RowStage {
 /// The change from the root down.
 #[tactic(auto, using(crate::proofs::StageLaws::row_stops, crate::proofs::StageLaws::row_begins))]
 pub(crate) fn begin(alloc: Global, splits: u32, change: RowChange) -> RowStage
-    requires { IsLeaf change.item }
+    requires { IsChange change }
     ensures work { work_of result ≡ spec.row splits change }
     ensures stands { Stands result }
 {
@@ -75,7 +75,7 @@ pub(crate) fn begin(alloc: Global, splits: u32, change: RowChange) -> RowStage
 /// Takes a page of the tree.
 #[tactic(auto, using(crate::proofs::WayLaws::asked_left, crate::proofs::WayLaws::asked_readable, crate::proofs::WayLaws::lands, crate::proofs::WayLaws::sinks, crate::proofs::WayLaws::landed))]
 fn down(task: RowTask, walk: Walk, page: Page) -> Result<RowStage, WantOfMemory>
-    requires item { IsLeaf task.change.item }
+    requires change { IsChange task.change }
     requires asked { Asked (work_of (stage.Down task walk)) (Handed page) }
     ensures work { IfOk result (λ next. work_of next ≡ work.after (work_of (stage.Down task walk)) (Handed page)) }
     ensures stands { IfOk result Stands }
@@ -88,7 +88,7 @@ fn down(task: RowTask, walk: Walk, page: Page) -> Result<RowStage, WantOfMemory>
 
 /// Takes the meta page at the leaf.
 fn at_leaf(alloc: Global, task: RowTask, path: Path, meta: Page) -> Result<RowStage, WantOfMemory>
-    requires item { IsLeaf task.change.item }
+    requires change { IsChange task.change }
     requires way { IsWayTo task.change.item.key path }
     requires meta { IsMeta meta }
     ensures work { IfOk result (λ next. work_of next ≡ work.after (work_of (stage.Arrived task path)) (Handed meta)) }
@@ -112,7 +112,7 @@ fn grounded(alloc: Global, ground: RowGround) -> Result<RowStage, WantOfMemory>
     ensures work { IfOk result (λ next. work_of next ≡ spec.with_slots ground) }
     ensures stands { IfOk result Stands }
 {
-    if has_undo_room(alloc, &ground)? {
+    if has_pages(alloc, &ground)? {
         return Ok(RowStage::Changing(ground));
     }
     Ok(RowStage::Told(Edited::SpaceFull))
