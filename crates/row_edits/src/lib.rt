@@ -14,6 +14,8 @@ mod row_edit;
 mod row_plans;
 mod row_stages;
 mod stepping;
+#[cfg(test)]
+mod tests;
 mod wishes;
 
 pub use back_edit::BackEdit;
