@@ -1,5 +1,5 @@
 -- What `register` answers, by the way in which the page has its slot.
-use Rattle.std.proofs.Common.{◌≡◌, ◌<◌, ◌⊎◌, inl, inr, ◌↔◌, ℕ, Bool, true, false, ◌&&◌, List, Option, Some, None, if◌then◌else◌, nat_eq, nat_lt, refl, sym, ◌∙◌, ap, subst, arith}
+use Rattle.std.proofs.Common.{◌≡◌, inl, inr, ◌↔◌, ℕ, Bool, true, false, List, Option, Some, None, if◌then◌else◌, nat_eq, nat_lt, refl, sym, ◌∙◌, ap, arith}
 use Rattle.std.proofs.lemmas.Bool.{true≢false}
 use Rattle.std.specs.Option.{option_map}
 use Rattle.rm_base.specs.declared.places.Addr.{Addr}
@@ -7,18 +7,16 @@ use Rattle.home_model.specs.Numbered.{put}
 use Rattle.home_model.specs.Entry.{Entry as HomeEntry, registered, takes_slot}
 use Rattle.slab_node.specs.Free.{is_free, count_free}
 use Rattle.slab_node.specs.Slab.{SlabState}
-use Rattle.slab_node.specs.Slabs.{NoRoom, IsLeastSlot, slab_at, took_at, has_room, live_slots}
+use Rattle.slab_node.specs.Slabs.{slab_at, has_room}
 use Rattle.slab_node.proofs.Counts.{count_none}
 use Rattle.home_tables.specs.Table.{entry_of, address_number, referred}
 use Rattle.home_tables.specs.Access.{accessed}
 use Rattle.home_tables.specs.Home.{HomeState, kept, entry_at, ChangesAt}
-use Rattle.home_tables.specs.Replacing.{Replaces}
 use Rattle.home_tables.specs.declared.entry.Entry.{Entry}
 use Rattle.home_tables.specs.declared.entry.Access.TheVariants.{Refer}
 use Rattle.message_network.specs.declared.calls.Reply.{Reply}
 use Rattle.message_network.specs.declared.calls.Reply.TheVariants.{Registered, PoolFull, Unregistered, Started, Done, Appended, Got, Fenced}
-use Rattle.rmem_calls.specs.Giving.{may_give, IsLeastPage}
-use Rattle.rmem_calls.specs.Registering.{Joins, TakesFree, TakesGiven, IsFull, Tells, TellsEntry, Seats, Refuses, RegisterAnswers, IsPoolFull}
+use Rattle.rmem_calls.specs.Registering.{Joins, TakesFree, TakesGiven, IsFull, Tells, TellsEntry, Seats, RegisterAnswers, IsPoolFull}
 
 -- an entry that takes no slot is there, with one
 pub with_entry : (o : Option Entry) → takes_slot (entry_of o) ≡ false → (e : Entry) × (o ≡ Some e)

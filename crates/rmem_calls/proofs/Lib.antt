@@ -3,3 +3,4 @@ pub mod Answers
 pub mod Marking
 pub mod SeatingLemmas
 pub mod EachPage
+pub mod Dropping

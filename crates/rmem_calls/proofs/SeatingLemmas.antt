@@ -1,11 +1,11 @@
 -- The entries stay seated when a page is registered.
-use Rattle.std.proofs.Common.{◌≡◌, ◌≢◌, ◌≤◌, ◌<◌, ◌+◌, ◌*◌, ◌/◌, ◌%◌, ◌⊎◌, inl, inr, ℕ, zero, suc, Bool, true, false, not, List, [], ◌∷◌, length, set, get_or, Option, Some, None, if◌then◌else◌, nat_eq, eqb-true, refl, sym, ◌∙◌, ap, subst, arith}
+use Rattle.std.proofs.Common.{◌≡◌, ◌≢◌, ◌<◌, ◌+◌, ◌*◌, ◌⊎◌, inl, inr, ℕ, zero, suc, Bool, true, false, not, List, [], ◌∷◌, length, set, Option, Some, None, if◌then◌else◌, nat_eq, eqb-true, refl, sym, ◌∙◌, ap, subst, arith}
 use Rattle.std.proofs.lemmas.Bool.{true≢false}
 use Rattle.std.proofs.lemmas.List.{get_or-set_same, get_or-set_other}
 use Rattle.rm_base.specs.declared.places.Addr.{Addr}
 use Rattle.std.specs.Option.{option_map}
 use Rattle.home_model.specs.Numbered.{put}
-use Rattle.home_model.specs.Entry.{Entry as HomeEntry, no_entry, registered, told_address, address_or, takes_slot}
+use Rattle.home_model.specs.Entry.{Entry as HomeEntry, no_entry, registered, address_or, takes_slot}
 use Rattle.slab_node.specs.Free.{is_free}
 use Rattle.slab_node.specs.Slab.{SlabState, took, crashed, restarted}
 use Rattle.slab_node.specs.Slabs.{no_slab, slab_at, AreSlabs, IsLeastSlot, took_at, crashed_at, restarted_at}
@@ -14,7 +14,7 @@ use Rattle.home_tables.specs.Home.{HomeState, kept, entry_at}
 use Rattle.home_tables.specs.declared.entry.Entry.{Entry}
 use Rattle.message_network.specs.declared.calls.Reply.{Reply}
 use Rattle.message_network.specs.declared.calls.Reply.TheVariants.{Registered, PoolFull, Unregistered, Started, Done, Appended, Got, Fenced}
-use Rattle.rmem_calls.specs.Registering.{Joins, TakesFree, TakesGiven, Seats, Refuses, RegisterAnswers}
+use Rattle.rmem_calls.specs.Registering.{Joins, TakesFree, TakesGiven, RegisterAnswers}
 use Rattle.rmem_calls.specs.Seating.{slot_in, slab_in, incarnation_in, AreSeated}
 
 slab_of : (i k s : ℕ) → k < 32 → s < 65536 → slab_in ((i * 32 + k) * 65536 + s) ≡ k

@@ -1,19 +1,10 @@
 -- Stated: the addresses of the entries as slots of the slabs.
-use Rattle.std.specs.Prelude.{◌≡◌, ◌<◌, ◌/◌, ◌%◌, ℕ, true, false, List, Some}
+use Rattle.std.specs.Prelude.{◌≡◌, ℕ, true, false, List, Some}
 use Rattle.slab_node.specs.Free.{is_free}
 use Rattle.slab_node.specs.Slab.{SlabState}
 use Rattle.slab_node.specs.Slabs.{slab_at}
+pub use Rattle.home_tables.specs.Table.{slot_in, slab_in, incarnation_in}
 use Rattle.home_tables.specs.Home.{HomeState, entry_at}
-
--- the parts of an address that is one number
-abbrev pub slot_in : ℕ → ℕ
-slot_in x = x % 65536
-
-abbrev pub slab_in : ℕ → ℕ
-slab_in x = x / 65536 % 32
-
-abbrev pub incarnation_in : ℕ → ℕ
-incarnation_in x = x / 2097152
 
 -- an address on a live slab has its incarnation and a slot that is taken, and no two entries share an address
 pub record AreSeated (H : HomeState) (slabs : List SlabState) : Type 0 where

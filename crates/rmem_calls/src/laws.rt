@@ -6,6 +6,7 @@ ghost use Rattle.home_model.specs.Entry.{Entry as HomeEntry, invalidated};
 ghost use Rattle.page_latches.specs.Set.{has};
 ghost use Rattle.home_tables.specs.Table.{address_number};
 ghost use Rattle.home_tables.specs.Home.{HomeState, entry_at};
+ghost use Rattle.home_tables.specs.Losing.{AllBecome, kept_from, lost_on};
 ghost use Rattle.message_network.specs.declared.calls.Reply.{Reply};
 ghost use Rattle.rmem_calls.specs.Registering.{RegisterAnswers};
 ghost use Rattle.rmem_calls.specs.Invalidating.{invalidated_all, due_pairs, is_among, AreApart};
@@ -34,6 +35,18 @@ pub fn seating_laws()
     ensures restart { (H : HomeState) (S : List SlabState) (k : ℕ) → k < length S
         → ((p x : ℕ) → (entry_at H p).address ≡ Some x → slab_in x ≢ k) → AreSeated H S
         → AreSeated H (restarted_at S k) }
+
+    // So do a kick of a node and a drop of a slab. After the drop no entry has an address on the slab,
+    // as its restart asks, and each address elsewhere stays.
+    ensures kick { (H H' : HomeState) (S : List SlabState) (n : ℕ) → AllBecome H H' (kept_from n)
+        → AreSeated H S → AreSeated H' S }
+    ensures drop { (H H' : HomeState) (S : List SlabState) (k : ℕ) → AllBecome H H' (lost_on k)
+        → AreSeated H S → AreSeated H' S }
+    ensures empty { (H H' : HomeState) (k : ℕ) → AllBecome H H' (lost_on k)
+        → (p x : ℕ) → (entry_at H' p).address ≡ Some x → slab_in x ≢ k }
+    ensures elsewhere { (H H' : HomeState) (k : ℕ) → AllBecome H H' (lost_on k)
+        → (p x : ℕ) → (entry_at H p).address ≡ Some x → slab_in x ≢ k
+        → (entry_at H' p).address ≡ Some x }
 {}
 
 /// The laws of pages that are invalidated together. It does nothing when it is run.
