@@ -1,7 +1,7 @@
 -- Lemmas on the list of slabs.
 use Rattle.std.specs.Prelude.{MatchOption, is_some, IsNone, IfSome}
 use Rattle.std.specs.Option.{option_map_or}
-use Rattle.std.proofs.Common.{Option, Some, None, ◌≡◌, ◌≢◌, ◌≤◌, ◌<◌, ◌+◌, ℕ, zero, suc, Bool, true, false, not, ◌&&◌, List, [], ◌∷◌, ◌++◌, length, take, set, get_or, nat_eq, nat_lt, eqb-true, refl, sym, ◌∙◌, ap, subst, arith, length-append, length-set}
+use Rattle.std.proofs.Common.{Option, Some, None, ◌≡◌, ◌≢◌, ◌≤◌, ◌<◌, ℕ, zero, suc, Bool, true, false, ◌&&◌, List, [], ◌∷◌, ◌++◌, length, set, get_or, nat_eq, nat_lt, eqb-true, refl, sym, ◌∙◌, ap, subst, arith, length-append, length-set}
 use Rattle.std.proofs.lemmas.Bool.{true≢false, ltb-true, ltb-false}
 use Rattle.std.proofs.lemmas.List.{get_or-set_same, get_or-set_other, set-get_or}
 use Rattle.std.proofs.Math.ListN.{get_or-append}
@@ -12,7 +12,7 @@ use Rattle.slab_node.proofs.Counts.{count_none}
 use Rattle.slab_node.specs.Slab.{SlabState, IsSlab, took, gave_back}
 use Rattle.slab_node.specs.Slabs.{no_slab, slab_at, AreSlabs, IsNew, AreNew, has_room, NoRoom, IsLeastSlot, IsSlotOf, took_at, gave_back_at, with_slab}
 
-get_or_default : (xs : List SlabState) (i : ℕ) (d e : SlabState) → i < length xs → get_or xs i d ≡ get_or xs i e
+pub get_or_default : (xs : List SlabState) (i : ℕ) (d e : SlabState) → i < length xs → get_or xs i d ≡ get_or xs i e
 get_or_default [] i d e h = absurd (omega arith)
 get_or_default (x ∷ xs) zero d e h = refl
 get_or_default (x ∷ xs) (suc i) d e h = get_or_default xs i d e (omega arith)

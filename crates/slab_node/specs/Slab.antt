@@ -1,5 +1,6 @@
 -- Stated: a slab as its slots, which of them are taken, and its incarnation while it is up.
-use Rattle.std.specs.Prelude.{◌≡◌, ◌<◌, ◌+◌, ℕ, Bool, true, false, List, length, Some, slice_get, slice_set, replicate, nat_le, nat_lt, ◌&&◌}
+use Rattle.std.specs.Prelude.{◌≡◌, ◌<◌, ◌+◌, ◌-◌, ◌^◌, ℕ, Bool, true, false, not, if◌then◌else◌, List, length, Some, slice_get, slice_set, replicate, nat_le, nat_lt, ◌&&◌, ◌||◌}
+use Rattle.rm_base.specs.declared.places.Addr.{Addr}
 use Rattle.page_image.specs.Image.{Image, unmade}
 use Rattle.node_model.specs.Slots.{Slots, address_number}
 
@@ -37,6 +38,20 @@ restarted S = record {
   pages = replicate (length S.pages) (unmade 0);
   taken = replicate (length S.taken) false;
 }
+
+-- a slab that is up takes its next incarnation, with every slot free and blank; one that is down stays down
+abbrev pub renewed : SlabState → SlabState
+renewed S = if S.up then restarted S else S
+
+-- a slab that is up has a next incarnation
+abbrev pub may_renew : SlabState → Bool
+may_renew S = not S.up || nat_lt S.incarnation (2 ^ 64 - 1)
+
+-- the slab is up, and the address names one of its slots in its incarnation
+pub record HasSlot (S : SlabState) (a : Addr) : Type 0 where
+  pub up : S.up ≡ true
+  pub incarnation : a.incarnation ≡ S.incarnation
+  pub within : a.slot < length S.pages
 
 -- the slab is a part of one memory of slots by address. While it is up its slots hold what that memory has at their
 -- addresses, which are not lost; the addresses of its earlier incarnations are lost, and while it is down its last ones too.

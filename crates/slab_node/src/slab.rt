@@ -1,4 +1,4 @@
-ghost use Rattle.std.specs.Prelude.{◌≡◌, ◌≢◌, ◌≤◌, ◌<◌, ◌+◌, ◌-◌, ◌^◌, ◌↔◌, ℕ, true, false, Some, Err, length, replicate, slice_get, IfOk, IfSome, IfNone, OnOk, OnErr, MatchOption};
+ghost use Rattle.std.specs.Prelude.{◌≡◌, ◌≢◌, ◌≤◌, ◌<◌, ◌+◌, ◌-◌, ◌^◌, ◌↔◌, ℕ, true, false, Some, Err, length, replicate, slice_get, IfOk, IfSome, IfNone, OnOk, OnErr, MatchOption, IsTrue};
 ghost use Rattle.std.specs.Option.{option_map_or};
 ghost use Rattle.page_image.specs.Image.{Image, unmade};
 
@@ -62,7 +62,7 @@ fn make_all(pages: &mut [Page], page: &Page)
 }
 
 impl Slab {
-    ghost use Rattle.slab_node.specs.Slab.{SlabState, IsSlab, written, took, gave_back, crashed, restarted};
+    ghost use Rattle.slab_node.specs.Slab.{SlabState, IsSlab, HasSlot, written, took, gave_back, crashed, restarted, renewed, may_renew};
     ghost use Rattle.slab_node.specs.Free.{AllTaken, IsFirstFree};
     ghost use Rattle.slab_node.specs.Slabs.{has_room, slots_up};
 
@@ -140,6 +140,22 @@ impl Slab {
             return Err(SlabNo::OldSlab);
         }
         Ok(())
+    }
+
+    /// Whether the slab is up and the address names one of its slots in its incarnation.
+    pub fn has_slot(&self, address: Addr) -> bool
+        ensures { IsTrue result ↔ HasSlot self.now address }
+    {
+        self.up
+            && address.incarnation == self.incarnation
+            && usize::from(address.slot) < self.pages.len()
+    }
+
+    /// Whether the slab, where it is up, has a next incarnation.
+    pub fn may_renew(&self) -> bool
+        ensures { result ≡ may_renew self.now }
+    {
+        !self.up || self.incarnation.number() < u64::MAX
     }
 
     /// Reads the page at the address.
@@ -251,5 +267,15 @@ impl Slab {
         self.up = true;
         make_all(self.pages.as_mut_slice(), &self.blank);
         self.slots.give_back_all();
+    }
+
+    /// Where the slab is up, it takes its next incarnation, with every slot free and blank.
+    pub fn renew(&mut self)
+        requires { may_renew self.old ≡ true }
+        ensures { self.new ≡ renewed self.old }
+    {
+        if self.up {
+            self.restart();
+        }
     }
 }

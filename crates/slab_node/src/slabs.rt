@@ -1,5 +1,7 @@
-ghost use Rattle.std.specs.Prelude.{◌≡◌, ◌≢◌, ◌↔◌, ◌≤◌, ◌<◌, ◌-◌, ◌^◌, ℕ, true, false, Some, Err, length, slice_get, IfOk, IfSome, IsNone, OnOk, OnErr};
+ghost use Rattle.std.specs.Prelude.{◌≡◌, ◌≢◌, ◌↔◌, ◌≤◌, ◌<◌, ◌-◌, ◌^◌, ℕ, true, false, Some, Err, length, slice_get, IfOk, IfSome, IsNone, IsTrue, OnOk, OnErr, map};
+ghost use Rattle.std.specs.List.{list_all};
 ghost use Rattle.std.specs.Option.{option_map_or, option_copied};
+ghost use Rattle.slab_node.specs.Slab.{may_renew, renewed};
 ghost use Rattle.slab_node.specs.Slabs.{slab_at, has_room, NoRoom, IsLeastSlot, IsSlotOf, IsPlace, took_at, wrote_at, crashed_at, restarted_at, gave_back_at, live_slots, AreSlabs, AreNew};
 
 use crate::slab::{Slab, SlabNo};
@@ -24,6 +26,16 @@ impl Model for Slabs {
     ghost view = { λ slabs. slabs.slabs.items };
 
     ghost invariant = { λ slabs. AreSlabs slabs.slabs.items };
+}
+
+fn renew_all(slabs: &mut [Slab])
+    requires { list_all may_renew slabs.old ≡ true }
+    ensures all { slabs.new ≡ map renewed slabs.old }
+    ensures count { length slabs.new ≡ length slabs.old }
+{
+    for slab in slabs.iter_mut() {
+        slab.renew();
+    }
 }
 
 impl Slabs {
@@ -55,6 +67,14 @@ impl Slabs {
         ensures { option_copied result ≡ slice_get self.now id }
     {
         self.slabs.get(usize::from(id.number()))
+    }
+
+    /// Whether the address is of a slot of a slab that is up, in its incarnation.
+    pub fn is_slot(&self, address: Addr) -> bool
+        ensures { IsTrue result ↔ IsSlotOf self.now address }
+    {
+        let place = usize::from(address.slab.number());
+        place < self.slabs.len() && self.slabs[place].has_slot(address)
     }
 
     #[tactic(auto, using(crate::proofs::SlabLists::room_at))]
@@ -161,5 +181,20 @@ impl Slabs {
         ensures { self.new ≡ restarted_at self.old id }
     {
         self.slabs[usize::from(id.number())].restart();
+    }
+
+    /// Whether each slab that is up has a next incarnation.
+    pub fn may_renew(&self) -> bool
+        ensures { result ≡ list_all may_renew self.now }
+    {
+        self.slabs.iter().all(|slab| slab.may_renew())
+    }
+
+    /// Each slab that is up takes its next incarnation, with every slot free and blank.
+    pub fn renew(&mut self)
+        requires { list_all may_renew self.old ≡ true }
+        ensures { self.new ≡ map renewed self.old }
+    {
+        renew_all(self.slabs.as_mut_slice());
     }
 }
