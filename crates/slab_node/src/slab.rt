@@ -143,8 +143,8 @@ impl Slab {
     }
 
     /// Whether the slab is up and the address names one of its slots in its incarnation.
-    pub fn has_slot(&self, address: Addr) -> bool
-        ensures { IsTrue result ↔ HasSlot self.now address }
+    pub fn has_slot(&self, address: &Addr) -> bool
+        ensures { IsTrue result ↔ HasSlot self.now address.now }
     {
         self.up
             && address.incarnation == self.incarnation

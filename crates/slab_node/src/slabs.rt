@@ -70,8 +70,9 @@ impl Slabs {
     }
 
     /// Whether the address is of a slot of a slab that is up, in its incarnation.
-    pub fn is_slot(&self, address: Addr) -> bool
-        ensures { IsTrue result ↔ IsSlotOf self.now address }
+    pub fn is_slot(&self, address: &Addr) -> bool
+        ensures slot { IsTrue result ↔ IsSlotOf self.now address.now }
+        ensures rules { AreSlabs self.now }
     {
         let place = usize::from(address.slab.number());
         place < self.slabs.len() && self.slabs[place].has_slot(address)
