@@ -35,7 +35,7 @@ read_entry chunk p place e is h at read =
 
 -- ---- a group is shipped
 
-one_shipped : (old : Chunk) (g : Group) (p : ℕ) → IsChunk old → CanShip old g → InChunk old p
+pub one_shipped : (old : Chunk) (g : Group) (p : ℕ) → IsChunk old → CanShip old g → InChunk old p
     → TakenAll p g.lsn g.records (kept_of old p) (entry_at (taken_all (first_page old) g.lsn g.records old.entries) (p - first_page old))
 one_shipped old g p is can h =
     let from = h.from in

@@ -2,3 +2,5 @@ pub mod EntryLaws
 pub mod TakenLaws
 pub mod MoveLaws
 pub mod ChunkLaws
+pub mod WaitLaws
+pub mod SkipLaws

@@ -5,7 +5,7 @@ use Rattle.page_image.specs.Image.{Image}
 use Rattle.message_model.specs.declared.Got.{Got}
 use Rattle.message_model.specs.declared.Got.TheVariants as got
 use Rattle.redo_record.specs.declared.redo.Group.{Group}
-use Rattle.redo_record.specs.Effect.{after_records, past, page_at, CountsFrom, RecordsApply}
+use Rattle.redo_record.specs.Effect.{after_records, past, page_at, CountsFrom, RecordsApply, LeaveAlone}
 use Rattle.page_chunks.specs.declared.entries.Entry.{Entry}
 use Rattle.page_chunks.specs.Entries.{base_of, image_of, entry_at, EachStands}
 
@@ -61,6 +61,14 @@ pub record IsShipped (old : Chunk) (g : Group) (new : Chunk) : Type 0 where
   pub number : new.number ≡ old.number
   pub applied : new.applied ≡ g.lsn
   pub images : (p : ℕ) → InChunk old p → image_at new p ≡ after_records g.lsn g.records (image_at old p)
+
+-- the chunk after groups up to that LSN without a record for its pages
+abbrev pub skipped : Chunk → ℕ → Chunk
+skipped chunk to = record chunk { applied = to }
+
+-- none of the groups has a record for a page of the chunk
+abbrev pub PassBy : Chunk → List Group → Type 0
+PassBy chunk groups = (p : ℕ) → InChunk chunk p → LeaveAlone p groups
 
 -- all answers are the same
 pub record AnswersSame (old new : Chunk) : Type 0 where

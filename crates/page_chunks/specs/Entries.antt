@@ -1,5 +1,5 @@
 -- Stated: what a chunk keeps of one page: a base image and the records that are not folded into it.
-use Rattle.std.specs.Prelude.{◌≡◌, ◌≤◌, ◌<◌, ◌+◌, ℕ, List, [], ◌∷◌, ◌++◌, length, None, unwrap_or, slice_index_or, ◌==◌, if◌then◌else◌}
+use Rattle.std.specs.Prelude.{◌≡◌, ◌≤◌, ◌<◌, ◌+◌, ℕ, List, [], ◌∷◌, ◌++◌, length, None, unwrap_or, slice_index_or, map, filter, ◌==◌, if◌then◌else◌}
 use Rattle.page_image.specs.Image.{Image, unmade}
 use Rattle.redo_record.specs.declared.redo.Record.{Record}
 use Rattle.redo_record.specs.declared.redo.Group.{Group}
@@ -21,6 +21,10 @@ image_of p e = after_groups e.pending (base_of p e)
 -- a record alone, with the LSN of its group
 abbrev pub single : ℕ → Record → Group
 single lsn r = record { lsn = lsn; records = r ∷ [] }
+
+-- the records of a group for page p, each alone with the group's LSN
+abbrev pub records_for : ℕ → Group → List Group
+records_for p g = map (single g.lsn) (filter (λ r. page_of r == p) g.records)
 
 -- the entry of page p after a record of a group with this LSN
 abbrev pub with_record : ℕ → ℕ → Record → Entry → Entry

@@ -1,8 +1,9 @@
 ghost use Rattle.std.specs.Prelude.{◌≡◌, ◌≢◌, ◌≤◌, ◌<◌, ◌+◌, ◌*◌, ◌∷◌, ◌++◌, [], ℕ, List, length, IsTrue, ◌↔◌, IsOk, IfOk, OnOk, OnErr};
 ghost use Rattle.std.specs.List.{AllByRecursion};
 ghost use Rattle.redo_record.specs.declared.redo.Group.{Group};
-ghost use Rattle.page_chunks.specs.Entries.{empty};
-ghost use Rattle.page_chunks.specs.Chunk.{InChunk, waiting, answer_of, answer_by, CanShip, IsShipped, AnswersSame, HasGot};
+ghost use Rattle.redo_record.specs.Effect.{CountsFrom};
+ghost use Rattle.page_chunks.specs.Entries.{empty, records_for};
+ghost use Rattle.page_chunks.specs.Chunk.{InChunk, waiting, answer_of, answer_by, CanShip, IsShipped, skipped, PassBy, AnswersSame, HasGot};
 
 use crate::entries::Entry;
 use crate::judging::all_apply;
@@ -127,11 +128,26 @@ impl PageChunk {
         ensures ok { OnOk result (IsShipped self.old g.now self.new) }
         ensures err { OnErr result (self.new ≡ self.old) }
         ensures got { OnOk result ((groups : List Group) → HasGot self.old groups → HasGot self.new (groups ++ g.now ∷ [])) }
+
+        // The group's records wait for their pages, behind those that did.
+        ensures waiting { OnOk result ((p : ℕ) → InChunk self.old p
+            → waiting self.new p ≡ waiting self.old p ++ records_for p g.now) }
     {
         let first = PAGES_PER_CHUNK * u32::from(self.number);
         take_all(self.entries.as_mut_slice(), alloc, first, g)?;
         self.applied = g.lsn;
         Ok(())
+    }
+
+    /// Passes over groups without a record for the chunk's pages, up to the one with that LSN, as if each
+    /// was shipped.
+    pub fn skip(&mut self, to: Lsn)
+        requires { self.old.applied ≤ to }
+        ensures skipped { self.new ≡ skipped self.old to }
+        ensures got { (groups more : List Group) → HasGot self.old groups → CountsFrom (length groups) more
+            → PassBy self.old more → length groups + length more ≡ to → HasGot self.new (groups ++ more) }
+    {
+        self.applied = to;
     }
 
     /// Folds the records for the page into its base image. No answer changes.

@@ -1,13 +1,14 @@
-use Rattle.std.proofs.Common.{◌≡◌, ◌*◌, ℕ, List, sym, ap, subst, ◌∙◌}
+use Rattle.std.proofs.Common.{◌≡◌, ◌*◌, ◌++◌, ℕ, List, sym, ap, subst, ◌∙◌}
 use Rattle.std.specs.Vec.{with_items}
 use Rattle.std.proofs.lemmas.List.{with_items_is}
 use Rattle.redo_record.specs.declared.redo.Record.{Record}
 use Rattle.redo_record.specs.declared.redo.Group.{Group}
 use Rattle.page_chunks.specs.declared.entries.Entry.{Entry}
-use Rattle.page_chunks.specs.Entries.{taken_all}
-use Rattle.page_chunks.specs.Chunk.{Chunk, first_page, IsChunk, CanShip, IsShipped}
+use Rattle.page_chunks.specs.Entries.{records_for, taken_all}
+use Rattle.page_chunks.specs.Chunk.{Chunk, first_page, InChunk, waiting, IsChunk, CanShip, IsShipped}
 use Rattle.page_chunks.proofs.ChunkLaws.{after_ship, shipped-chunk, shipped-images}
 use Rattle.page_chunks.proofs.MoveLaws.{got_more}
+use Rattle.page_chunks.proofs.WaitLaws.{shipped-waiting}
 use Rattle.page_chunks.proofs.chunk.PageChunk.ship.Goals as goal
 
 abbrev old_of : (c : goal.After-self-3-1) → Chunk
@@ -46,3 +47,16 @@ returns-clause-ok c = shipped c
 pub returns-clause-got : goal.returns-clause-got
 returns-clause-got c groups has =
     got_more c.args.self.now (after_ship (old_of c) c.args.g.now (with_items c.self.inside.entries c.take_all.new.entries).items) c.args.g.now groups has c.requires.next (shipped c)
+
+-- the same of the whole chunk's view
+waits : (c : goal.After-self-3-1) → (p : ℕ) → InChunk c.args.self.now p
+    → waiting (after_ship (old_of c) c.args.g.now (with_items c.self.inside.entries c.take_all.new.entries).items) p ≡ waiting c.args.self.now p ++ records_for p c.args.g.now
+waits c =
+    let g : Group = c.args.g.now in
+    let es : List Entry = c.take_all.new.entries in
+    subst (λ (k : Chunk). (p : ℕ) → InChunk k p → waiting (after_ship (old_of c) g (with_items c.self.inside.entries es).items) p ≡ waiting k p ++ records_for p g) c.self.view_is
+    (subst (λ (q : List Entry). (p : ℕ) → InChunk (old_of c) p → waiting (after_ship (old_of c) g q) p ≡ waiting (old_of c) p ++ records_for p g) (sym (kept c))
+    (shipped-waiting (old_of c) g es c.self.invariant (can c) (taken c)))
+
+pub returns-clause-waiting : goal.returns-clause-waiting
+returns-clause-waiting c = waits c
