@@ -1,0 +1,5 @@
+pub mod Storage
+pub mod Serving
+pub mod Shipping
+pub mod Keeping
+pub mod Joining
