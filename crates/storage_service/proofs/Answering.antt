@@ -1,11 +1,9 @@
--- A call by what the server says to it, and the answer to a request for a page.
+-- The answer to a request for a page.
 use Rattle.std.proofs.Common.{◌≡◌, ◌≤◌, ◌<◌, ◌+◌, ◌++◌, ℕ, zero, suc, add-zero, Bool, true, false, cond, nat_lt, List, [], ◌∷◌, length, take, drop, Option, Some, None, Result, Ok, Err, IfOk, refl, sym, ap, subst, ◌∙◌, arith}
 use Rattle.std.proofs.lemmas.List.{length-take-le, take-append-drop}
 use Rattle.page_image.specs.Image.{Image}
 use Rattle.message_model.specs.declared.Got.{Got}
 use Rattle.message_model.specs.declared.Got.TheVariants as got
-use Rattle.call_model.specs.Callers.{Label}
-use Rattle.call_model.specs.Servers.{Admission, Admission.Fenced as FencedCall, Admission.Old, Admission.Again, Admission.New, admit}
 use Rattle.message_network.specs.declared.calls.Reply.{Reply}
 use Rattle.message_network.specs.declared.calls.Reply.TheVariants.{Fenced}
 use Rattle.redo_record.specs.declared.redo.Group.{Group}
@@ -16,22 +14,6 @@ use Rattle.log_chunks.specs.Log.{Log}
 use Rattle.storage_service.specs.Storage.{Storage, Parts, storage_of, chunk_of, chunk_at, answer_at, get_answer}
 use Rattle.storage_service.specs.Keeping.{IsKept}
 use Rattle.storage_service.proofs.Views.{fits}
-use Rattle.storage_service.specs.Serving.{ServedBy, Served}
-
-pub served_new : (handles : Storage → Reply → Storage → Type 0) (l : Label) (S : Storage) (reply : Option Reply) (T : Storage) → admit S.server l ≡ New
-    → (r : Reply) × (reply ≡ Some r) × handles S r T → Served handles l S reply T
-served_new handles l S reply T is h = subst (λ (a : Admission). ServedBy a handles l S reply T) (sym is) h
-
-pub served_again : (handles : Storage → Reply → Storage → Type 0) (l : Label) (S : Storage) (reply : Option Reply) (T : Storage) → admit S.server l ≡ Again
-    → reply ≡ (S.server.memory l.node).reply → T ≡ S → Served handles l S reply T
-served_again handles l S reply T is same stays = subst (λ (a : Admission). ServedBy a handles l S reply T) (sym is) (same, stays)
-
-pub served_old : (handles : Storage → Reply → Storage → Type 0) (l : Label) (S : Storage) (T : Storage) → admit S.server l ≡ Old → T ≡ S → Served handles l S None T
-served_old handles l S T is stays = subst (λ (a : Admission). ServedBy a handles l S None T) (sym is) (refl, stays)
-
-pub served_fenced : (handles : Storage → Reply → Storage → Type 0) (l : Label) (S : Storage) (e : ℕ) (T : Storage) → admit S.server l ≡ FencedCall e → T ≡ S
-    → Served handles l S (Some (Fenced e)) T
-served_fenced handles l S e T is stays = subst (λ (a : Admission). ServedBy a handles l S (Some (Fenced e)) T) (sym is) (refl, stays)
 
 -- the page at an LSN is that of the groups up to it
 pub page_of_front : (groups : List Group) (n p : ℕ) → CountsFrom 0 groups → n ≤ length groups → page_at (take n groups) p n ≡ page_at groups p n

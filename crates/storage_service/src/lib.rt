@@ -7,6 +7,8 @@ mod laws;
 mod shipping;
 mod starting;
 mod storage;
+#[cfg(test)]
+mod tests;
 
 pub use applying::all_apply;
 pub use laws::storage_laws;
