@@ -1,0 +1,3 @@
+pub mod HomeSide
+pub mod Serving
+pub mod Keeping
