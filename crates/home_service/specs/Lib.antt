@@ -1,3 +1,4 @@
 pub mod HomeSide
 pub mod Serving
 pub mod Keeping
+pub mod Joining

@@ -2,8 +2,10 @@
 //! server, which handles each call at most once.
 #![tactic(auto)]
 
+mod laws;
 mod reaching;
 mod replying;
 mod service;
 
+pub use laws::{access_laws, call_laws};
 pub use service::HomeService;
