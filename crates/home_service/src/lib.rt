@@ -6,6 +6,8 @@ mod laws;
 mod reaching;
 mod replying;
 mod service;
+#[cfg(test)]
+mod tests;
 
 pub use laws::{access_laws, call_laws};
 pub use service::HomeService;
