@@ -1,11 +1,8 @@
 -- One page's entry changes, and the pages of the laws with it.
-use Rattle.std.proofs.Common.{◌≡◌, ◌≢◌, ◌<◌, ℕ, Bool, true, false, cond, nat_eq, eqb-true, List, length, Option, Some, None, refl, sym, ap, subst, ◌∙◌, arith}
+use Rattle.std.proofs.Common.{◌≡◌, ◌≢◌, ℕ, Bool, true, false, cond, nat_eq, eqb-true, Option, Some, None, refl, sym, ap, ◌∙◌, arith}
 use mathlib.Core.Path.{fun_ext}
 use Rattle.home_model.specs.Numbered.{put, nobody}
-use Rattle.home_model.specs.Latch.{Latch, free_latch}
 use Rattle.home_model.specs.Entry.{Entry as HomeEntry, no_entry, unregistered}
-use Rattle.node_model.specs.Slots.{Slots}
-use Rattle.slab_node.specs.Slab.{SlabState}
 use Rattle.home_tables.specs.Table.{entry_of}
 use Rattle.home_tables.specs.Home.{HomeState, kept, entry_at, ChangesAt}
 use Rattle.home_tables.specs.declared.entry.Entry.{Entry}
@@ -14,7 +11,7 @@ use Rattle.page_coherence.specs.Cluster.{State as Pages}
 use Rattle.pool_laws.specs.Calls.{only}
 use Rattle.pool_laws.specs.Serving.{at_pages}
 use Rattle.home_service.specs.HomeSide.{HomeSide}
-use Rattle.home_service.specs.Joining.{AreParts, Sees, with_page}
+use Rattle.home_service.specs.Joining.{AreParts, Sees}
 
 same_number : (p : ℕ) → nat_eq p p ≡ true
 same_number p = grind arith

@@ -1,18 +1,16 @@
 -- `invalidate` in the words of the laws of the pool.
-use Rattle.std.proofs.Common.{◌≡◌, ◌≢◌, ◌<◌, ℕ, zero, suc, Bool, true, false, cond, nat_eq, eqb-true, ◌||◌, List, [], ◌∷◌, length, get_or, Some, None, refl, sym, ap, subst, ◌∙◌, arith}
+use Rattle.std.proofs.Common.{◌≡◌, ◌<◌, ℕ, suc, Bool, true, false, cond, nat_eq, eqb-true, ◌||◌, List, [], ◌∷◌, length, get_or, refl, sym, ap, subst, ◌∙◌, arith}
 use mathlib.Core.Path.{fun_ext}
 use Rattle.call_model.specs.Callers.{Label}
 use Rattle.call_model.specs.Stages.{Effect.Handles as HandlesCall}
 use Rattle.message_network.specs.declared.calls.Reply.{Reply}
 use Rattle.message_network.specs.declared.calls.Reply.TheVariants.{Registered, PoolFull, Unregistered, Started, Done, Appended, Got, Fenced}
-use Rattle.home_model.specs.Numbered.{put}
 use Rattle.home_model.specs.Entry.{Entry as HomeEntry, invalidated, due_beside}
 use Rattle.page_latches.specs.Set.{has}
 use Rattle.slab_node.specs.Slab.{SlabState}
-use Rattle.home_tables.specs.Home.{HomeState, entry_at}
+use Rattle.home_tables.specs.Home.{entry_at}
 use Rattle.rmem_calls.specs.Invalidating.{invalidated_all, is_among, AreApart, due_pairs, InvalidateAnswers}
 use Rattle.rmem_calls.proofs.EachPage.{others_stay, each_changes, none_due}
-use Rattle.page_coherence.specs.Page.{Page}
 use Rattle.page_coherence.specs.Moves.{fresh_of, handled_invalidate}
 use Rattle.page_coherence.specs.Cluster.{State as Pages}
 use Rattle.pool_laws.specs.Calls.{HomeCall.InvalidatePages}

@@ -1,14 +1,13 @@
 -- What the home's side does is what the laws of the pool say of it.
-use Rattle.std.proofs.Common.{◌≡◌, ◌≢◌, ◌<◌, ◌≤◌, ℕ, Bool, true, false, cond, nat_eq, eqb-true, List, length, Some, None, set, slice_get, get_or, get_or-set_same, get_or-set_other, length-set, refl, sym, ap, subst, ◌∙◌, arith}
+use Rattle.std.proofs.Common.{◌≡◌, ◌≢◌, ◌<◌, ℕ, Bool, true, false, nat_eq, eqb-true, List, length, Some, slice_get, get_or-set_same, get_or-set_other, length-set, refl, sym, ap, subst, ◌∙◌, arith}
 use Rattle.rm_base.specs.declared.places.Addr.{Addr}
 use Rattle.page_image.specs.Image.{Image}
 use Rattle.call_model.specs.Callers.{Label}
 use Rattle.call_model.specs.Stages.{Effect.Handles as HandlesCall}
 use Rattle.message_network.specs.declared.calls.Reply.{Reply}
 use Rattle.home_model.specs.Numbered.{put}
-use Rattle.home_model.specs.Latch.{may_share, MayExclude, released, free_latch}
-use Rattle.home_model.specs.Entry.{Entry as HomeEntry, no_entry, unregistered, released_by, cleaned, struck, shared_by, excluded_by}
-use Rattle.page_latches.specs.Holding.{IsGranted}
+use Rattle.home_model.specs.Latch.{may_share, MayExclude}
+use Rattle.home_model.specs.Entry.{Entry as HomeEntry, unregistered}
 use Rattle.page_latches.specs.declared.latch.Mode.{Mode}
 use Rattle.page_latches.specs.declared.latch.Mode.TheVariants.{S as Shares, X as Excludes}
 use Rattle.page_latches.specs.declared.latch.Latch.TheVariants.{Granted}
@@ -18,7 +17,7 @@ use Rattle.slab_node.specs.Slabs.{AreSlabs, slab_at, no_slab, IsSlotOf, wrote_at
 use Rattle.slab_node.proofs.Parts.{write_part, beside_part}
 use Rattle.home_tables.specs.Table.{address_number}
 use Rattle.home_tables.specs.Access.{taken_by}
-use Rattle.home_tables.specs.Home.{HomeState, kept, entry_at, ChangesAt}
+use Rattle.home_tables.specs.Home.{entry_at, ChangesAt}
 use Rattle.home_tables.specs.Trying.{Tries}
 use Rattle.page_coherence.specs.Page.{Page, set_entry}
 use Rattle.page_coherence.specs.Moves.{handled_unregister}

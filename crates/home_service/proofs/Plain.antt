@@ -1,5 +1,5 @@
 -- The replies of the home hold no page.
-use Rattle.std.proofs.Common.{◌≡◌, ◌≤◌, ◌<◌, ℕ, Bool, true, false, cond, nat_eq, nat_lt, List, Option, Some, None, IfSome, refl, sym, ap, subst, arith}
+use Rattle.std.proofs.Common.{◌≡◌, ◌≤◌, ◌<◌, ℕ, Bool, true, false, cond, nat_eq, nat_lt, List, Option, Some, IfSome, refl, sym, subst, arith}
 use Rattle.std.proofs.lemmas.Bool.{ltb-true, ltb-false}
 use Rattle.message_network.specs.declared.serving.Server.{Server as Parts}
 use Rattle.message_network.specs.ServerView.{server_of, known_of}

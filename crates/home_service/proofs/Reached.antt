@@ -1,9 +1,8 @@
 -- An address that is a slot of a slab, or is none.
-use Rattle.std.proofs.Common.{◌≡◌, ◌<◌, ℕ, zero, suc, false, List, [], ◌∷◌, length, Option, Some, None, refl, sym, ap, ◌∙◌, arith}
+use Rattle.std.proofs.Common.{◌≡◌, ℕ, zero, suc, false, List, [], ◌∷◌, Some, None, refl}
 use Rattle.std.specs.List.{slice_get}
-use Rattle.std.proofs.lemmas.Option.{slice_get_within}
 use Rattle.slab_node.specs.Slab.{SlabState}
-use Rattle.slab_node.specs.Slabs.{slab_at, no_slab}
+use Rattle.slab_node.specs.Slabs.{slab_at}
 
 pub slab_there : (slabs : List SlabState) (k : ℕ) (T : SlabState) → slice_get slabs k ≡ Some T → slab_at slabs k ≡ T
 slab_there [] k T h = absurd cc

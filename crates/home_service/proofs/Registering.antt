@@ -1,8 +1,7 @@
 -- `register` in the words of the laws of the pool.
-use Rattle.std.proofs.Common.{◌≡◌, ◌≢◌, ◌<◌, ℕ, zero, suc, Bool, true, false, cond, nat_eq, eqb-true, ◌&&◌, ◌||◌, List, [], ◌∷◌, length, Option, Some, None, option_map, set, get_or-set_same, get_or-set_other, length-set, refl, sym, ap, subst, ◌∙◌, arith}
+use Rattle.std.proofs.Common.{◌≡◌, ◌≢◌, ◌<◌, ℕ, Bool, true, false, cond, nat_eq, eqb-true, ◌&&◌, ◌||◌, List, [], ◌∷◌, length, Option, Some, None, option_map, get_or-set_same, get_or-set_other, length-set, refl, sym, ap, subst, ◌∙◌, arith}
 use Rattle.std.proofs.lemmas.Bool.{true≢false}
 use Rattle.rm_base.specs.declared.places.Addr.{Addr}
-use Rattle.page_image.specs.Image.{Image}
 use Rattle.call_model.specs.Stages.{Effect.Handles as HandlesCall}
 use Rattle.message_network.specs.declared.calls.Reply.{Reply}
 use Rattle.message_network.specs.declared.calls.Reply.TheVariants.{Registered, PoolFull, Unregistered, Started, Done, Appended, Got, Fenced}
@@ -12,7 +11,7 @@ use Rattle.page_latches.specs.Set.{has}
 use Rattle.page_latches.specs.Holding.{latch_of}
 use Rattle.page_latches.specs.declared.latch.Holders.{Holders}
 use Rattle.page_latches.specs.declared.latch.Holders.TheVariants.{Free, Shared, Exclusive}
-use Rattle.node_model.specs.Slots.{Slots, address_number as number_of}
+use Rattle.node_model.specs.Slots.{Slots}
 use Rattle.slab_node.specs.Slab.{SlabState, IsPart, took}
 use Rattle.slab_node.specs.Slabs.{AreSlabs, slab_at, no_slab, IsSlotOf, took_at}
 use Rattle.home_tables.specs.Table.{address_number, entry_of, is_none_of, is_free, is_idle, is_idle_on, is_on}
@@ -25,9 +24,9 @@ use Rattle.rmem_calls.proofs.SeatingLemmas.{unused}
 use Rattle.page_coherence.specs.Page.{Page}
 use Rattle.page_coherence.specs.Mode.{Mode.Normal}
 use Rattle.page_coherence.specs.Moves.{handled_register}
-use Rattle.page_coherence.specs.Cluster.{State as Pages, Event.Remove, Happens as PagesDo, IsFree, IsUnused, raised_by, removed}
-use Rattle.pool_laws.specs.Calls.{HomeCall.RegisterPage, only}
-use Rattle.pool_laws.specs.Serving.{at_pages, MayTake, Serves}
+use Rattle.page_coherence.specs.Cluster.{State as Pages, Event.Remove, Happens as PagesDo, IsFree, IsUnused, removed}
+use Rattle.pool_laws.specs.Calls.{HomeCall.RegisterPage}
+use Rattle.pool_laws.specs.Serving.{MayTake, Serves}
 use Rattle.home_service.specs.HomeSide.{HomeSide}
 use Rattle.home_service.specs.Joining.{AreParts, Sees, without_page, handled, answer_as}
 use Rattle.home_service.proofs.Framing.{put_at, put_beside, at_here, at_beside}

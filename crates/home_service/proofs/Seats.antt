@@ -1,5 +1,5 @@
 -- The addresses of entries stay on slots of the slabs.
-use Rattle.std.proofs.Common.{◌≡◌, ◌≢◌, ◌<◌, ℕ, Bool, true, false, cond, nat_eq, eqb-true, List, [], ◌∷◌, length, set, Option, Some, None, IfSome, IsNone, get_or-set_same, get_or-set_other, refl, sym, ap, subst, ◌∙◌, arith}
+use Rattle.std.proofs.Common.{◌≡◌, ◌≢◌, ◌<◌, ℕ, Bool, true, false, cond, nat_eq, eqb-true, List, [], ◌∷◌, length, Option, Some, None, IfSome, IsNone, get_or-set_same, get_or-set_other, refl, sym, ap, subst, ◌∙◌, arith}
 use Rattle.rm_base.specs.declared.places.Addr.{Addr}
 use Rattle.page_image.specs.Image.{Image}
 use Rattle.home_model.specs.Numbered.{put}
@@ -13,10 +13,10 @@ use Rattle.slab_node.specs.Slab.{SlabState, written}
 use Rattle.slab_node.specs.Slabs.{slab_at, no_slab, wrote_at}
 use Rattle.slab_node.specs.Free.{is_free}
 use Rattle.home_tables.specs.Access.{taken_by}
-use Rattle.home_tables.specs.Home.{HomeState, kept, entry_at, ChangesAt}
+use Rattle.home_tables.specs.Home.{HomeState, entry_at, ChangesAt}
 use Rattle.home_tables.specs.Trying.{Tries}
 use Rattle.rmem_calls.specs.Invalidating.{invalidated_all}
-use Rattle.rmem_calls.specs.Seating.{AreSeated, slot_in, slab_in, incarnation_in}
+use Rattle.rmem_calls.specs.Seating.{AreSeated, slot_in, slab_in}
 use Rattle.rmem_calls.proofs.SeatingLemmas.{fewer_seated}
 
 -- each page has the address that it had

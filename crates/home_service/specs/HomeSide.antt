@@ -1,5 +1,5 @@
 -- Stated: what the home's side of the pool has: the server of calls, the home's tables and the slabs.
-use Rattle.std.specs.Prelude.{ℕ, List}
+use Rattle.std.specs.Prelude.{List}
 use Rattle.call_model.specs.Servers.{Server}
 use Rattle.message_network.specs.declared.calls.Reply.{Reply}
 use Rattle.message_network.specs.declared.serving.Server.{Server as ServerParts}

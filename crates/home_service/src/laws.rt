@@ -34,34 +34,39 @@ pub fn call_laws()
     // The pages then have the entries that the home has, and no other page has changed.
     ensures unregister { (s : Pages) (S T : HomeSide) (l : Label) (p : ℕ) (r : Reply) → Sees s S
         → HandlesUnregister l p S r T
-        → Serves (HandlesCall l.node (UnregisterPage p) (answer_as r)) s (at_pages (only p) (λ P. handled_unregister P l.node) s)
+        → Serves (HandlesCall l.node (UnregisterPage p) (answer_as r)) s
+        (at_pages (only p) (λ P. handled_unregister P l.node) s)
         × Sees (at_pages (only p) (λ P. handled_unregister P l.node) s) T }
 
     // `invalidate` of pages that differ and have entries, beside which the nodes stand whose local bit is
     // not set.
-    ensures invalidate { (s : Pages) (S T : HomeSide) (l : Label) (pages : List ℕ) (clear : List (List ℕ)) (r : Reply)
-        → Sees s S → AreApart pages → AreClear s pages clear
+    ensures invalidate { (s : Pages) (S T : HomeSide) (l : Label) (pages : List ℕ)
+        (clear : List (List ℕ)) (r : Reply) → Sees s S → AreApart pages → AreClear s pages clear
         → ((i : ℕ) → i < length pages → (entry_at S.home (slice_index pages i)).there ≡ true)
         → HandlesInvalidate l pages clear S r T
-        → Serves (HandlesCall l.node (InvalidatePages (among pages)) (answer_as r)) s (at_pages (among pages) (λ P. handled_invalidate P l.node (is_done r)) s)
+        → Serves (HandlesCall l.node (InvalidatePages (among pages)) (answer_as r)) s
+        (at_pages (among pages) (λ P. handled_invalidate P l.node (is_done r)) s)
         × Sees (at_pages (among pages) (λ P. handled_invalidate P l.node (is_done r)) s) T }
 
     // `register` of a page that has its slot, and of one that takes a free slot, which no entry has and
     // whose slab is up.
     ensures joins { (s : Pages) (S T : HomeSide) (n p : ℕ) (r : Reply) → Sees s S
         → Joins S.home T.home S.slabs T.slabs n p → TellsEntry T.home p r
-        → Serves (HandlesCall n (RegisterPage p) (answer_as r)) s (handled s p 0 n) × Sees (handled s p 0 n) T }
+        → Serves (HandlesCall n (RegisterPage p) (answer_as r)) s (handled s p 0 n)
+        × Sees (handled s p 0 n) T }
     ensures free { (s : Pages) (S T : HomeSide) (n p : ℕ) (a : Addr) (r : Reply) → Sees s S → AreSlabs S.slabs
         → AreSeated S.home S.slabs → TakesFree S.home T.home S.slabs T.slabs n p a → TellsEntry T.home p r
         → Serves (HandlesCall n (RegisterPage p) (answer_as r)) s (handled s p (address_number a) n)
         × Sees (handled s p (address_number a) n) T }
 
     // Where a page is given away for its slot, its entry is removed first.
-    ensures given { (s : Pages) (S T : HomeSide) (n p given : ℕ) (a : Addr) (r : Reply) → Sees s S → AreSlabs S.slabs
-        → AreSeated S.home S.slabs → s.mode ≡ Normal → s.home_up ≡ true → IsSlotOf S.slabs a
+    ensures given { (s : Pages) (S T : HomeSide) (n p given : ℕ) (a : Addr) (r : Reply) → Sees s S
+        → AreSlabs S.slabs → AreSeated S.home S.slabs → s.mode ≡ Normal → s.home_up ≡ true
+        → IsSlotOf S.slabs a
         → TakesGiven S.home T.home S.slabs T.slabs n p given a → TellsEntry T.home p r
         → PagesDo (Remove given) s (without_page s given)
-        × Serves (HandlesCall n (RegisterPage p) (answer_as r)) (without_page s given) (handled (without_page s given) p (address_number a) n)
+        × Serves (HandlesCall n (RegisterPage p) (answer_as r)) (without_page s given)
+        (handled (without_page s given) p (address_number a) n)
         × Sees (handled (without_page s given) p (address_number a) n) T }
 
     // A full pool changes nothing.

@@ -154,7 +154,8 @@ impl HomeService {
         requires new { admit (side_of self.old).server (labelled token.now call) ≡ NewCall }
         requires beside { length clear.now ≡ length pages.now }
         ensures { (r : Reply) × (result ≡ Some r)
-            × HandlesInvalidate (labelled token.now call) pages.now clear.now (side_of self.old) r (side_of self.new) }
+            × HandlesInvalidate (labelled token.now call) pages.now clear.now
+            (side_of self.old) r (side_of self.new) }
     {
         let reply = rmem_calls::invalidate(&mut self.home, token.node, pages, clear);
         self.server.keep(*token, call, same_reply(&reply));
@@ -193,7 +194,8 @@ impl HomeService {
     /// The access `latch`: a try of the page's latch. None exactly where the page has no entry.
     pub fn try_latch(&mut self, page: PageId, node: NodeId, mode: Mode) -> Option<Latch>
         ensures none { IsNone result ↔ ((entry_at (side_of self.old).home page).there ≡ false) }
-        ensures tried { IfSome result (λ latch. Tries (side_of self.old).home (side_of self.new).home page node mode latch) }
+        ensures tried { IfSome result (λ latch. Tries (side_of self.old).home (side_of self.new).home
+            page node mode latch) }
         ensures same { IsNone result → self.new ≡ self.old }
         ensures rest { OnlyHome (side_of self.old) (side_of self.new) }
     {
@@ -202,7 +204,8 @@ impl HomeService {
 
     /// The access `release`: the node holds the page's latch no longer.
     pub fn release(&mut self, page: PageId, node: NodeId)
-        ensures entry { ChangesAt (side_of self.old).home (side_of self.new).home page (λ E. released_by E node) }
+        ensures entry { ChangesAt (side_of self.old).home (side_of self.new).home page
+            (λ E. released_by E node) }
         ensures rest { OnlyHome (side_of self.old) (side_of self.new) }
     {
         self.home.access(page, Access::Release(node));
@@ -212,7 +215,8 @@ impl HomeService {
     /// the page has no entry; then nothing changes.
     pub fn clean(&mut self, page: PageId, lsn: Lsn) -> bool
         ensures there { IsTrue result ↔ ((entry_at (side_of self.old).home page).there ≡ true) }
-        ensures entry { ChangesAt (side_of self.old).home (side_of self.new).home page (λ E. cleaned E lsn) }
+        ensures entry { ChangesAt (side_of self.old).home (side_of self.new).home page
+            (λ E. cleaned E lsn) }
         ensures rest { OnlyHome (side_of self.old) (side_of self.new) }
     {
         rmem_calls::clean(&mut self.home, page, lsn)
@@ -233,10 +237,13 @@ impl HomeService {
     /// Reads what stands at the address. Down exactly where its slab is down or there is none; else
     /// OldSlab exactly where it is no slot of that slab in its incarnation.
     pub fn read(&self, address: &Addr, into: &mut Page) -> Result<(), SlabNo>
-        ensures down { (result ≡ Err SlabNo.Down) ↔ ((slab_at (side_of self.now).slabs address.now.slab).up ≡ false) }
-        ensures old { (result ≡ Err SlabNo.OldSlab) ↔ (((slab_at (side_of self.now).slabs address.now.slab).up ≡ true)
+        ensures down { (result ≡ Err SlabNo.Down)
+            ↔ ((slab_at (side_of self.now).slabs address.now.slab).up ≡ false) }
+        ensures old { (result ≡ Err SlabNo.OldSlab)
+            ↔ (((slab_at (side_of self.now).slabs address.now.slab).up ≡ true)
             × ¬ IsSlotOf (side_of self.now).slabs address.now) }
-        ensures read { OnOk result (slice_get (slab_at (side_of self.now).slabs address.now.slab).pages address.now.slot
+        ensures read { OnOk result
+            (slice_get (slab_at (side_of self.now).slabs address.now.slab).pages address.now.slot
             ≡ Some into.new) }
         ensures err { OnErr result (into.new ≡ into.old) }
     {
@@ -247,11 +254,15 @@ impl HomeService {
     /// Writes the page at the address. Down exactly where its slab is down or there is none; else OldSlab
     /// exactly where it is no slot of that slab in its incarnation. In both nothing changes.
     pub fn write(&mut self, address: &Addr, page: &Page) -> Result<(), SlabNo>
-        ensures down { (result ≡ Err SlabNo.Down) ↔ ((slab_at (side_of self.old).slabs address.now.slab).up ≡ false) }
-        ensures old { (result ≡ Err SlabNo.OldSlab) ↔ (((slab_at (side_of self.old).slabs address.now.slab).up ≡ true)
+        ensures down { (result ≡ Err SlabNo.Down)
+            ↔ ((slab_at (side_of self.old).slabs address.now.slab).up ≡ false) }
+        ensures old { (result ≡ Err SlabNo.OldSlab)
+            ↔ (((slab_at (side_of self.old).slabs address.now.slab).up ≡ true)
             × ¬ IsSlotOf (side_of self.old).slabs address.now) }
         ensures written { OnOk result (side_of self.new
-            ≡ record (side_of self.old) { slabs = wrote_at (side_of self.old).slabs address.now page.now }) }
+            ≡ record (side_of self.old) {
+              slabs = wrote_at (side_of self.old).slabs address.now page.now;
+            }) }
         ensures err { OnErr result (self.new ≡ self.old) }
     {
         reach(&self.slabs, address)?;
@@ -271,7 +282,8 @@ impl HomeService {
         requires { ((side_of self.old).server.memory node).incarnation ≤ incarnation }
         ensures newer { ((side_of self.old).server.memory node).incarnation < incarnation
             → side_of self.new ≡ renewed (side_of self.old) node incarnation }
-        ensures same { ((side_of self.old).server.memory node).incarnation ≡ incarnation → self.new ≡ self.old }
+        ensures same { ((side_of self.old).server.memory node).incarnation ≡ incarnation
+            → self.new ≡ self.old }
     {
         self.server.renew(node, incarnation);
     }

@@ -28,7 +28,10 @@ fn a_register_is_handled_once(rt: HostRuntime) -> Result<(), Fail> {
     assert!(rt; matches!(full, Some(Reply::PoolFull { slots: 1 })));
     let parted = home.unregister(&one, CallNo::new(3), page);
     assert!(rt; matches!(parted, Some(Reply::Unregistered)));
-    assert!(rt; home.register(&one, CallNo::new(2), other)?.is_none(), "an older call");
+    assert!(rt;
+        home.register(&one, CallNo::new(2), other)?.is_none(),
+        "an older call"
+    );
     let given = home.register(&one, CallNo::new(4), other)?;
     assert!(rt; matches!(given, Some(Reply::Registered { .. })));
     assert!(rt; home.look(page).is_none() && home.look(other).is_some());
@@ -53,7 +56,10 @@ fn a_page_is_written_cleaned_and_read(rt: HostRuntime) -> Result<(), Fail> {
     assert!(rt; home.write(&address, &image).is_ok());
     assert!(rt; home.clean(page, Lsn::new(5)));
     home.release(page, node);
-    assert!(rt; home.look(page).is_some_and(|seen| !seen.bit && seen.lsn.number() == 5));
+    assert!(rt;
+        home.look(page)
+            .is_some_and(|seen| !seen.bit && seen.lsn.number() == 5)
+    );
     let mut copy = Page::blank(alloc, page)?;
     assert!(rt; home.read(&address, &mut copy).is_ok());
     assert_eq!(rt; copy.lsn().number(), 5);

@@ -1,14 +1,13 @@
 -- A chunk passes over groups that have no record for its pages.
-use Rattle.std.proofs.Common.{◌≡◌, ◌≤◌, ◌+◌, ℕ, List, [], ◌∷◌, ◌++◌, length, map, length-append, append-nil, append_assoc, refl, sym, ap, subst, ◌∙◌, arith}
+use Rattle.std.proofs.Common.{◌≡◌, ◌+◌, ℕ, List, [], ◌∷◌, ◌++◌, length, map, length-append, append-nil, append_assoc, refl, sym, ap, subst, ◌∙◌, arith}
 use Rattle.page_image.specs.Image.{Image}
-use Rattle.redo_record.specs.declared.redo.Record.{Record}
 use Rattle.std.specs.List.{list_any}
-use Rattle.std.proofs.Common.{nat_eq, Bool, false}
+use Rattle.std.proofs.Common.{nat_eq, false}
 use Rattle.redo_record.specs.declared.redo.Group.{Group}
-use Rattle.redo_record.specs.Effect.{page_of, after_records, page_at, CountsFrom}
+use Rattle.redo_record.specs.Effect.{page_of, CountsFrom}
 use Rattle.redo_record.proofs.Fold.{page_at-page, after_records-other}
 use Rattle.page_chunks.specs.Chunk.{Chunk, InChunk, HasGot, CanShip, IsShipped, skipped, PassBy, image_at}
-use Rattle.page_chunks.specs.Moves.{Move, ship, Runs}
+use Rattle.page_chunks.specs.Moves.{ship, Runs}
 use Rattle.page_chunks.proofs.ChunkLaws.{records_elsewhere}
 use Rattle.page_chunks.proofs.MoveLaws.{in_old, got_more}
 
@@ -23,16 +22,16 @@ elsewhere chunk groups more g p has pass h =
 pub passed : (chunk : Chunk) (groups more : List Group) (g : Group) → HasGot chunk groups → g.lsn ≡ length groups + 1 → PassBy chunk (g ∷ more)
     → CanShip chunk g × IsShipped chunk g (skipped chunk g.lsn)
 passed chunk groups more g has next pass = (
-      record {
-        next = next ∙ ap (λ (n : ℕ). n + 1) (sym has.applied);
-        apply = λ p h. records_elsewhere g.lsn g.records (image_at chunk p) (elsewhere chunk groups more g p has pass h);
-      },
-      record {
-        number = refl;
-        applied = refl;
-        images = λ p h. sym (after_records-other g.lsn g.records (image_at chunk p) (elsewhere chunk groups more g p has pass h));
-      },
-    )
+  record {
+    next = next ∙ ap (λ (n : ℕ). n + 1) (sym has.applied);
+    apply = λ p h. records_elsewhere g.lsn g.records (image_at chunk p) (elsewhere chunk groups more g p has pass h);
+  },
+  record {
+    number = refl;
+    applied = refl;
+    images = λ p h. sym (after_records-other g.lsn g.records (image_at chunk p) (elsewhere chunk groups more g p has pass h));
+  },
+)
 
 counts_on : (groups more : List Group) (g : Group) → CountsFrom (length groups + 1) more → CountsFrom (length (groups ++ g ∷ [])) more
 counts_on groups more g counts =

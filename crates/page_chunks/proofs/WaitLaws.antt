@@ -1,12 +1,12 @@
 -- The records that wait for a page once a group is shipped.
-use Rattle.std.proofs.Common.{◌≡◌, ◌<◌, ◌+◌, ◌-◌, ℕ, Bool, true, false, cond, nat_eq, List, [], ◌∷◌, ◌++◌, map, filter, length, append-nil, append_assoc, refl, sym, ap, subst, ◌∙◌, arith}
+use Rattle.std.proofs.Common.{◌≡◌, ◌<◌, ◌+◌, ◌-◌, ℕ, Bool, true, false, cond, nat_eq, List, [], ◌∷◌, ◌++◌, map, filter, length, append-nil, append_assoc, refl, sym, ap, ◌∙◌, arith}
 use Rattle.redo_record.specs.declared.redo.Record.{Record}
 use Rattle.redo_record.specs.declared.redo.Group.{Group}
 use Rattle.redo_record.specs.Effect.{page_of}
 use Rattle.page_chunks.specs.declared.entries.Entry.{Entry}
-use Rattle.page_chunks.specs.Entries.{empty, single, with_record, records_for, taken_all, Stands, entry_at}
+use Rattle.page_chunks.specs.Entries.{empty, single, with_record, records_for, taken_all, entry_at}
 use Rattle.page_chunks.specs.Chunk.{Chunk, first_page, InChunk, kept_of, waiting, IsChunk, CanShip}
-use Rattle.page_chunks.proofs.EntryLaws.{TakenAll, with_records, waiting-all}
+use Rattle.page_chunks.proofs.EntryLaws.{with_records, waiting-all}
 use Rattle.page_chunks.proofs.TakenLaws.{entry-taken_all}
 use Rattle.page_chunks.proofs.ChunkLaws.{kept-stands, one_shipped, after_ship}
 

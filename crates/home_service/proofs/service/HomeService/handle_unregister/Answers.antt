@@ -1,5 +1,4 @@
-use Rattle.std.proofs.Common.{refl, sym, ap, subst, ◌∙◌}
-use Rattle.call_model.specs.Callers.{Label}
+use Rattle.std.proofs.Common.{refl, sym, subst}
 use Rattle.message_network.specs.ServerView.{server_of}
 use Rattle.message_network.specs.Labels.{labelled}
 use Rattle.message_network.specs.declared.calls.Reply.{Reply}
