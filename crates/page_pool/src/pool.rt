@@ -1,9 +1,9 @@
 //! What each pool promises.
-ghost use Rattle.std.specs.Prelude.{◌≡◌, ◌<◌, Some, IfOk, OnErr, true, false};
+ghost use Rattle.std.specs.Prelude.{◌≡◌, ◌<◌, ◌↔◌, Some, IfOk, IsTrue, OnErr, true, false};
 ghost use Rattle.std.specs.Option.{option_copied, option_map};
 ghost use Rattle.cluster_model.specs.declared.shape.Shape.{Shape};
 ghost use Rattle.page_pool.specs.Nodes.{is_able, is_busy, plan_of, is_installed};
-ghost use Rattle.page_pool.specs.State.{PoolState, Begins, admits, Suits};
+ghost use Rattle.page_pool.specs.State.{PoolState, Begins, admits, IsBeside, Suits};
 ghost use Rattle.page_pool.specs.Calls.{IsRunnable, IfFree, BeginsFetch, BeginsPlan, GivesUp};
 ghost use Rattle.page_pool.specs.Steps.{Steps};
 
@@ -61,6 +61,12 @@ pub trait PagePool: Drop {
         requires there { n < (state self.now).nodes }
         ensures origin { result
             ≡ option_map (λ handed. handed.origin) (((state self.now).node n).handed page) };
+
+    /// Whether the node may append: it is the one that writes, its buffer is not empty, no append is
+    /// unanswered, and it waits for nothing.
+    fn can_append(&self, n: NodeId) -> bool
+        requires there { n < (state self.now).nodes }
+        ensures appends { IsTrue result ↔ IsBeside (state self.now) n Action.Append };
 
     /// Begins a fetch of the page. False exactly where something is under way.
     fn fetch(&mut self, n: NodeId, page: PageId) -> bool

@@ -1,5 +1,5 @@
 -- For the proofs: what the fields of a plain pool keep.
-use Rattle.std.proofs.Common.{◌≡◌, ◌≢◌, ℕ, Option, None, Some, List, [], ◌++◌, length, sum_by, sym, ◌∙◌, ap, subst, append-nil}
+use Rattle.std.proofs.Common.{◌≡◌, ◌≢◌, ℕ, Bool, true, false, refl, Option, None, Some, List, [], ◌++◌, length, sum_by, sym, ◌∙◌, ap, subst, append-nil}
 use Rattle.std.specs.Option.{MatchOption}
 use Rattle.page_image.specs.Image.{Image, unmade}
 use Rattle.redo_record.specs.declared.redo.Group.{Group}
@@ -18,15 +18,18 @@ same-groups s = sym (append-nil (groups_of s))
 abbrev ApartIn : Image → ℕ → Option Image → Type 0
 ApartIn page p blank = MatchOption blank (page ≢ unmade p) (λ x. x ≡ page)
 
-pub kept_plain : (s : Stored) (w : Work) (handed : Option ℕ) (blank : Option Image) (last end : ℕ)
-    → IsPlain s w handed blank last end → IsPlain (all_kept s) w handed blank last end
-kept_plain s w handed blank last end h = record {
+pub kept_plain : (s : Stored) (w : Work) (handed : Option ℕ) (blank : Option Image) (unkept : Bool) (last end : ℕ)
+    → IsPlain s w handed blank unkept last end → IsPlain (all_kept s) w handed blank false last end
+kept_plain s w handed blank unkept last end h = record {
   runs = λ plan e. subst (λ (x : List Group). IsRunnable x plan) (same-groups s) (h.runs plan e);
   blank_is = λ p e. apart-kept p (h.blank_is p e);
+  unkept_is = (λ e. absurd (not-true e), λ e. refl);
   last_is = h.last_is ∙ ap (λ (x : List Group). length x) (same-groups s);
   end_is = h.end_is ∙ ap (λ (x : List Group). sum_by bytes_of x) (same-groups s);
 }
   where
+    not-true : false ≡ true → ⊥
+    not-true e = cc
     pages-same : (p : ℕ) → pages_of s p ≡ pages_of (all_kept s) p
     pages-same p = ap (λ (x : List Group). after_groups x (unmade p)) (same-groups s)
     apart-kept : (p : ℕ) → IsApart s p blank → IsApart (all_kept s) p blank

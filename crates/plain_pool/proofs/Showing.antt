@@ -1,5 +1,5 @@
 -- For the proofs: the one node of a plain pool, as callers know it.
-use Rattle.std.proofs.Common.{◌≡◌, ◌≢◌, ℕ, ◌<◌, Bool, true, false, Option, Some, None, IsSome, List, nat_eq, if◌then◌else◌, ◌⊎◌, inl, inr, refl, sym, ◌∙◌, ap, subst, arith, Bor}
+use Rattle.std.proofs.Common.{◌≡◌, ◌≢◌, ℕ, ◌<◌, Bool, true, false, Option, Some, None, IsSome, List, [], nat_eq, if◌then◌else◌, ◌⊎◌, inl, inr, refl, sym, ◌∙◌, ap, subst, arith, Bor}
 use Rattle.std.specs.Option.{option_map, option_copied, MatchOption}
 use Rattle.page_image.specs.Image.{Image, unmade}
 use Rattle.redo_record.specs.declared.plans.Plan.{Plan}
@@ -8,13 +8,14 @@ use Rattle.cluster_model.specs.declared.traces.Origin.{Origin}
 use Rattle.cluster_model.specs.declared.traces.Origin.TheVariants.{Local}
 use Rattle.cluster_model.specs.declared.shape.Shape.{Shape}
 use Rattle.fetch_steps.specs.declared.acts.Action.{Action}
+use Rattle.fetch_steps.specs.declared.acts.Action.TheVariants as action
 use Rattle.page_store.specs.Stored.{Stored, groups_of, pages_of}
 use Rattle.page_pool.specs.Nodes.{Job, Job.Rests, Job.Fetches, Job.Runs, is_busy, plan_of, Handed, NodeState, is_able, resting, IsNode}
 use Rattle.page_pool.specs.declared.events.How.{How}
 use Rattle.page_pool.specs.declared.events.PoolEvent.{PoolEvent}
 use Rattle.page_pool.specs.declared.events.PoolEvent.TheVariants.{Act, Deliver, Home, Ship, Fold, Evict}
 use Rattle.page_pool.specs.Events.{can_end}
-use Rattle.page_pool.specs.State.{PoolState, Begins, current, admits, MayAct, Suits}
+use Rattle.page_pool.specs.State.{PoolState, Begins, current, admits, IsBeside, MayAct, Suits}
 use Rattle.page_pool.specs.Calls.{IsRunnable, MayGo, HandsOut, ChangesNode, IfFree, BeginsFetch, BeginsPlan, GivesUp}
 use Rattle.plain_pool.specs.declared.work.Work.{Work}
 use Rattle.plain_pool.specs.declared.work.Work.TheVariants.{Rest, Fetch, Run}
@@ -247,3 +248,13 @@ unfolding state_of
 admits_act s event n a h e k =
     let zero : n ≡ 0 = (suited s event n a h e k).0 in
     ap (λ (x : PoolEvent). admits (state_of s) x) (e ∙ ap (λ (m : ℕ). Act m a h) zero)
+
+-- ---- what may be appended
+pub appends : (s : Plain) (n : ℕ) → n < (state_of s).nodes → s.store.own ≢ [] → IsBeside (state_of s) n action.Append
+unfolding state_of
+appends s n lt ne =
+    subst (λ (k : ℕ). IsBeside (state_of s) k action.Append) (sym (only_zero s n lt)) (refl, refl, refl, ne)
+
+pub appended : (s : Plain) (n : ℕ) → IsBeside (state_of s) n action.Append → s.store.own ≢ []
+unfolding state_of
+appended s n h = h.3

@@ -1,5 +1,5 @@
 -- Stated: what contracts see of a plain pool, and what its acts do.
-use Rattle.std.specs.Prelude.{◌≡◌, ◌≢◌, ℕ, MatchOption, Option, Some, None, List, [], length, sum_by}
+use Rattle.std.specs.Prelude.{◌≡◌, ◌≢◌, ℕ, Bool, true, false, MatchOption, Option, Some, None, List, [], length, sum_by}
 use Rattle.page_image.specs.Image.{Image, unmade}
 use Rattle.redo_record.specs.declared.redo.Record.{Record}
 use Rattle.redo_record.specs.declared.plans.Plan.{Plan}
@@ -53,10 +53,11 @@ released s = record s { handed = None }
 abbrev pub IsApart : Stored → ℕ → Option Image → Type 0
 IsApart store p blank = MatchOption blank (pages_of store p ≢ unmade p) (λ page. page ≡ pages_of store p)
 
--- a plan that is under way can be run; the page that was handed out is apart where it is not made; and two counters have the
--- log's last LSN and its end
-pub record IsPlain (store : Stored) (work : Work) (handed : Option ℕ) (blank : Option Image) (last end : ℕ) : Type 0 where
+-- a plan that is under way can be run; the page that was handed out is apart where it is not made; a mark says whether a group is
+-- not kept; and two counters have the log's last LSN and its end
+pub record IsPlain (store : Stored) (work : Work) (handed : Option ℕ) (blank : Option Image) (unkept : Bool) (last end : ℕ) : Type 0 where
   pub runs : (plan : Plan) → work ≡ Run plan → IsRunnable (groups_of store) plan
   pub blank_is : (p : ℕ) → handed ≡ Some p → IsApart store p blank
+  pub unkept_is : (unkept ≡ true → store.own ≢ []) × (unkept ≡ false → store.own ≡ [])
   pub last_is : last ≡ length (groups_of store)
   pub end_is : end ≡ sum_by bytes_of (groups_of store)

@@ -1,5 +1,5 @@
 //! What the node's acts do.
-ghost use Rattle.std.specs.Prelude.{◌≡◌, ◌↔◌, ◌+◌, ℕ, Some, IfOk, OnOk, OnErr, IsTrue, sum_by};
+ghost use Rattle.std.specs.Prelude.{◌≡◌, ◌≢◌, ◌↔◌, [], ◌+◌, ℕ, Some, IfOk, OnOk, OnErr, IsTrue, sum_by};
 ghost use Rattle.std.specs.Option.{option_copied};
 ghost use Rattle.redo_record.specs.Spelling.{IsEncodable};
 ghost use Rattle.page_store.specs.Stored.{groups_of, pages_of};
@@ -89,6 +89,13 @@ impl PlainPool {
         self.work.is_busy()
     }
 
+    /// Whether a group is not kept.
+    pub(crate) fn has_unkept(&self) -> bool
+        ensures { IsTrue result ↔ (self.now.store.own ≢ []) }
+    {
+        self.unkept
+    }
+
     /// Whether the page is the one that was handed out.
     pub(crate) fn is_handed(&self, page: PageId) -> bool
         ensures { IsTrue result ↔ (self.now.handed ≡ Some page) }
@@ -133,6 +140,7 @@ impl PlainPool {
         let end = end_behind(alloc, self.end, &group)?;
         let Group { lsn, records } = group;
         self.store.run(alloc, records)?;
+        self.unkept = true;
         self.last = lsn;
         self.end = end;
         self.work = Work::Rest;
@@ -146,6 +154,7 @@ impl PlainPool {
         ensures end { result ≡ sum_by bytes_of (groups_of self.old.store) }
     {
         self.store.keep();
+        self.unkept = false;
         self.end
     }
 

@@ -18,6 +18,8 @@ pub struct PlainPool {
     pub(crate) handed: Option<PageId>,
     /// That page, where it is not made.
     pub(crate) blank: Option<Page>,
+    /// Whether a group is not kept.
+    pub(crate) unkept: bool,
     pub(crate) last: Lsn,
     pub(crate) end: u64,
 }
@@ -29,7 +31,7 @@ impl Model for PlainPool {
 
     ghost view = { λ pool. record { store = pool.store; work = pool.work; handed = pool.handed } };
 
-    ghost invariant = { λ pool. IsPlain pool.store pool.work pool.handed pool.blank pool.last pool.end };
+    ghost invariant = { λ pool. IsPlain pool.store pool.work pool.handed pool.blank pool.unkept pool.last pool.end };
 }
 
 impl PlainPool {
@@ -44,6 +46,7 @@ impl PlainPool {
             work: Work::Rest,
             handed: None,
             blank: None,
+            unkept: false,
             last: Lsn::new(1),
             end,
         })

@@ -117,6 +117,10 @@ impl PagePool for PlainPool {
         Some(Origin::Local)
     }
 
+    fn can_append(&self, _n: NodeId) -> bool {
+        self.has_unkept()
+    }
+
     #[tactic(auto, using(crate::proofs::Showing::fetch_free, crate::proofs::Showing::fetch_taken))]
     fn fetch(&mut self, _n: NodeId, page: PageId) -> bool {
         if self.has_work() {
