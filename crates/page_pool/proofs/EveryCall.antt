@@ -92,7 +92,7 @@ known_is_a_front calls t h = let r = reached calls t h in (acknowledged_lasts by
 -- ---- the LSNs
 counted-grown : (xs ys : List Group) → CountsFrom 0 xs → Grows xs ys → CountsFrom 0 ys
 counted-grown xs ys c h = elim h [
-  inl e ↦ subst (λ (z : List Group). CountsFrom 0 z) (sym e) c
+  | inl e ↦ subst (λ (z : List Group). CountsFrom 0 z) (sym e) c
   | inr g ↦ subst (λ (z : List Group). CountsFrom 0 z) (sym g.2) (counts-one xs g.0 c g.1)
 ]
   where
@@ -153,16 +153,16 @@ changed-other n m p s t c ne h =
 
 changed-node : (n m p : ℕ) (s t : PoolState) → ChangesNode n s t → HandedWas s.log.made p ((t.node n).handed p) → HandedWas s.log.made p ((s.node m).handed p) → HandedWas t.log.made p ((t.node m).handed p)
 changed-node n m p s t c here h = elim (same_or_not m n) [
-  inl e ↦ subst (λ (x : State Group). HandedWas x.made p ((t.node m).handed p)) (sym c.log)
+  | inl e ↦ subst (λ (x : State Group). HandedWas x.made p ((t.node m).handed p)) (sym c.log)
       (subst (λ (k : ℕ). HandedWas s.log.made p ((t.node k).handed p)) (sym e) here)
   | inr ne ↦ changed-other n m p s t c ne h
 ]
 
 fetched : (n p q : ℕ) (s t : PoolState) → BeginsFetch n p s t → HandedWas s.log.made q ((s.node n).handed q) → HandedWas s.log.made q ((t.node n).handed q)
 fetched n p q s t b h = elim (same_or_not q p) [
-  inl e ↦ subst (λ (k : ℕ). HandedWas s.log.made k ((t.node n).handed k)) (sym e)
+  | inl e ↦ subst (λ (k : ℕ). HandedWas s.log.made k ((t.node n).handed k)) (sym e)
       (elim b.job [
-        inl j ↦ handed-goes s.log.made p ((s.node n).handed p) ((t.node n).handed p)
+        | inl j ↦ handed-goes s.log.made p ((s.node n).handed p) ((t.node n).handed p)
             (subst (λ (k : ℕ). HandedWas s.log.made k ((s.node n).handed k)) e h) (b.page j)
         | inr j ↦ handed-out s.log.made p ((t.node n).handed p) (b.over j)
       ])
@@ -201,16 +201,17 @@ stepped event answer s t m p k ne None e h =
     none-some : (m : ℕ) → None ≡ Some m → ⊥
     none-some m e = cc
 stepped event answer s t m p k ne (Some n) e h = elim (same_or_not m n) [
-  inl q ↦ node-stepped (k.node ne m (e ∙ ap (λ (x : ℕ). Some x) (sym q)))
+  | inl q ↦ node-stepped (k.node ne m (e ∙ ap (λ (x : ℕ). Some x) (sym q)))
   | inr apart-from ↦ subst (λ (x : NodeState). HandedWas s.log.made p (x.handed p))
       (sym (k.others m (λ q. apart-from (some-same m n (sym e ∙ q))))) h
 ]
   where
     some-same : (m n : ℕ) → Some n ≡ Some m → m ≡ n
     some-same m n e = cc
+
     node-stepped : NodeSteps event (outcome_of answer) m s.log.made (s.node m) (t.node m) → HandedWas s.log.made p ((t.node m).handed p)
     node-stepped w = elim (w.keeps p) [
-      inl go ↦ handed-goes s.log.made p ((s.node m).handed p) ((t.node m).handed p) h go
+      | inl go ↦ handed-goes s.log.made p ((s.node m).handed p) ((t.node m).handed p) h go
       | inr over ↦ handed-out s.log.made p ((t.node m).handed p) (w.hands_out p over.0 over.1)
     ]
 
@@ -223,11 +224,13 @@ is-refused Refused = inl refl
 
 step-sound : (event : PoolEvent) (answer : PoolAnswer) (s t : PoolState) → Steps event answer s t → Sound s → Sound t
 step-sound event answer s t k h = elim (is-refused answer) [
-  inl e ↦ same-sound s t (k.same e) h
-  | inr ne ↦ from-nodes s t
-      (k.nodes, λ m p less. handed-later s.log.made t.log.made p ((t.node m).handed p)
-          (front-grown s.log.made t.log.made (log-grows event (outcome_of answer) s t.log k.log))
-          (stepped event answer s t m p k ne (actor event answer) refl (h m p less)))
+  | inl e ↦ same-sound s t (k.same e) h
+  | inr ne ↦ from-nodes s t (
+    k.nodes,
+    λ m p less. handed-later s.log.made t.log.made p ((t.node m).handed p)
+        (front-grown s.log.made t.log.made (log-grows event (outcome_of answer) s t.log k.log))
+        (stepped event answer s t m p k ne (actor event answer) refl (h m p less)),
+  )
 ]
 
 call-sound : (c : Call) (s t : PoolState) → Does c s t → Sound s → Sound t

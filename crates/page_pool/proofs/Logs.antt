@@ -62,7 +62,7 @@ grown xs gs false = front-itself xs
 known-accept : (s t : State Group) → Logs (Accept ∷ []) s t → IsFront s.acknowledged t.acknowledged
 known-accept s t h =
     let e : t.acknowledged ≡ (if is_kept h.1.2 then s.acknowledged ++ h.1.1 else s.acknowledged) =
-        ap (λ (x : State Group). x.acknowledged) h.2 ∙ ap (λ (x : State Group). x.acknowledged) h.1.4 in
+    ap (λ (x : State Group). x.acknowledged) h.2 ∙ ap (λ (x : State Group). x.acknowledged) h.1.4 in
     subst (λ (x : List Group). IsFront s.acknowledged x) (sym e) (grown s.acknowledged h.1.1 (is_kept h.1.2))
 
 known-settled : (s t : State Group) → Logs (Send ∷ Handle ∷ Accept ∷ []) s t → IsFront s.acknowledged t.acknowledged
@@ -78,13 +78,13 @@ Grows old new = (new ≡ old) ⊎ ((g : Group) × (g.lsn ≡ next_lsn old) × (n
 
 carried-made : (event : PoolEvent) (s t : State Group) → Carries event s t → t.made ≡ s.made
 carried-made event s t h = elim h [
-  inl a ↦ made-send s t a.1
+  | inl a ↦ made-send s t a.1
   | inr b ↦ elim b [ inl a ↦ made-handle s t a.1 | inr a ↦ made-late s t a.1.0 a.1.1 a.1.2 a.1.3 ]
 ]
 
 carried-known : (event : PoolEvent) (s t : State Group) → Carries event s t → t.acknowledged ≡ s.acknowledged
 carried-known event s t h = elim h [
-  inl a ↦ known-send s t a.1
+  | inl a ↦ known-send s t a.1
   | inr b ↦ elim b [ inl a ↦ known-handle s t a.1 | inr a ↦ known-late s t a.1.0 a.1.1 a.1.2 a.1.3 ]
 ]
 
@@ -142,7 +142,7 @@ IsLogged s t = (events : List (Event Group)) × Logs events s t
 
 carried : (event : PoolEvent) (s t : State Group) → Carries event s t → IsLogged s t
 carried event s t h = elim h [
-  inl a ↦ (Send ∷ [], a.1)
+  | inl a ↦ (Send ∷ [], a.1)
   | inr b ↦ elim b [ inl a ↦ (Handle ∷ [], a.1) | inr a ↦ (Late a.1.0 a.1.1 a.1.2 ∷ [], a.1.3) ]
 ]
 

@@ -42,6 +42,7 @@ Reaches calls t = (shape : Shape) × (s : PoolState) × Begins shape s × Calls 
 -- the groups in storage are the first of the RW's log, and those that it knows to be there are the first of these
 abbrev pub StoreIsAFront : Type 0
 StoreIsAFront = (calls : List Call) (t : PoolState) → Reaches calls t → IsFront t.log.store.groups t.log.made
+
 abbrev pub AcknowledgedIsAFront : Type 0
 AcknowledgedIsAFront = (calls : List Call) (t : PoolState) → Reaches calls t → IsFront t.log.acknowledged t.log.store.groups
 
@@ -52,6 +53,7 @@ LogIsCounted = (calls : List Call) (t : PoolState) → Reaches calls t → Count
 -- nothing leaves the log, nor what is known to be in storage
 abbrev pub LogGrows : Type 0
 LogGrows = (calls : List Call) (s t : PoolState) → Calls s calls t → IsFront s.log.made t.log.made
+
 abbrev pub AcknowledgedGrows : Type 0
 AcknowledgedGrows = (calls : List Call) (s t : PoolState) → Calls s calls t → IsFront s.log.acknowledged t.log.acknowledged
 
@@ -72,6 +74,7 @@ EndIsKnown = (event : PoolEvent) (end : ℕ) (s t : PoolState) → Steps event (
 abbrev pub OffsetIsKnown : Type 0
 OffsetIsKnown = (event : PoolEvent) (answer : PoolAnswer) (s t : PoolState) (tail : ℕ) → Steps event answer s t
     → kept_by answer ≡ Some tail → tail ≡ sum_by bytes_of t.log.acknowledged
+
 abbrev pub OthersSettleNone : Type 0
 OthersSettleNone = (event : PoolEvent) (answer : PoolAnswer) (s t : PoolState) → Steps event answer s t
     → kept_by answer ≡ None → t.log.acknowledged ≡ s.log.acknowledged

@@ -30,7 +30,9 @@ kept_plain s w handed blank unkept last end h = record {
   where
     not-true : false ≡ true → ⊥
     not-true e = cc
+
     pages-same : (p : ℕ) → pages_of s p ≡ pages_of (all_kept s) p
     pages-same p = ap (λ (x : List Group). after_groups x (unmade p)) (same-groups s)
+
     apart-kept : (p : ℕ) → IsApart s p blank → IsApart (all_kept s) p blank
     apart-kept p k = subst (λ (x : Image). ApartIn x p blank) (pages-same p) k

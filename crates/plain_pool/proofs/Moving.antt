@@ -51,8 +51,10 @@ acted a h o s t can log node = record {
   where
     did-not : Did o ≡ Refused → ⊥
     did-not e = cc
+
     true-false : true ≡ false → ⊥
     true-false e = cc
+
     zero-is : (n : ℕ) → Some 0 ≡ Some n → 0 ≡ n
     zero-is n e = cc
 
@@ -91,8 +93,10 @@ look-keeps made handed page p = by-test (nat_eq p page) refl
   where
     same-number : (p q : ℕ) → nat_eq p q ≡ true → q ≡ p
     same-number p q e = grind arith
+
     apart : (p q : ℕ) → nat_eq p q ≡ false → Some q ≡ Some p → ⊥
     apart p q e k = grind arith
+
     by-test : (b : Bool) → nat_eq p page ≡ b → MayGo (handed_at made handed p) (handed_at made (Some page) p) ⊎ ((Fetches page ≡ Fetches p) × (Rests ≡ Rests))
     by-test true e = inr (ap (λ (k : ℕ). Fetches k) (same-number p page e), refl)
     by-test false e = inl (inr (handed_not made (Some page) p (apart p page e)))
@@ -189,7 +193,7 @@ pub install_steps : (s : Plain) (end : ℕ) → MayAct (state_of s) 0 action.Ins
 install_steps s end may e =
     let run = may_install s may in
     let P : Work → Type 0 = λ w. end ≡ sum_by bytes_of (groups_of (with_group s.store (records_of w)))
-        → Steps (Act 0 action.Install how.Made) (Did (Installed end)) (state_of (record { store = s.store; work = w; handed = s.handed })) (state_of (record { store = with_group s.store (records_of w); work = Rest; handed = None })) in
+    → Steps (Act 0 action.Install how.Made) (Did (Installed end)) (state_of (record { store = s.store; work = w; handed = s.handed })) (state_of (record { store = with_group s.store (records_of w); work = Rest; handed = None })) in
     subst P (sym run.1) (install-run s.store run.0 s.handed end) e
 
 -- an append
@@ -265,6 +269,7 @@ append-node s tail = record {
   where
     other-outcome : (end : ℕ) → Some (Kept tail) ≡ Some (Installed end) → ⊥
     other-outcome end e = cc
+
     not-release : (p : ℕ) → Act 0 action.Append how.Made ≡ Act 0 (action.Release p) how.Made → ⊥
     not-release p e = cc
 
@@ -359,6 +364,7 @@ next-plain (Fetch page) a e n = some-none (action.Look page) a (act.Look page) e
       where
         inner : (b a : Action) → Some b ≡ Some a → b ≡ a
         inner b a e = cc
+
         none-some : (x : PlainAct) → None ≡ Some x → ⊥
         none-some x e = cc
 next-plain (Run plan) a e n = cc

@@ -1,5 +1,5 @@
 -- For the proofs: the one node of a plain pool, as callers know it.
-use Rattle.std.proofs.Common.{◌≡◌, ◌≢◌, ℕ, ◌<◌, Bool, true, false, Option, Some, None, IsSome, List, [], nat_eq, if◌then◌else◌, ◌⊎◌, inl, inr, refl, sym, ◌∙◌, ap, subst, arith, Bor}
+use Rattle.std.proofs.Common.{◌≡◌, ◌≢◌, ℕ, ◌<◌, Bool, true, false, Option, Some, None, IsSome, List, [], nat_eq, if◌then◌else◌, ◌⊎◌, inl, inr, refl, sym, ◌∙◌, ap, subst, arith, lit<, Bor}
 use Rattle.std.specs.Option.{option_map, option_copied, MatchOption}
 use Rattle.page_image.specs.Image.{Image, unmade}
 use Rattle.redo_record.specs.declared.plans.Plan.{Plan}
@@ -10,7 +10,7 @@ use Rattle.cluster_model.specs.declared.shape.Shape.{Shape}
 use Rattle.fetch_steps.specs.declared.acts.Action.{Action}
 use Rattle.fetch_steps.specs.declared.acts.Action.TheVariants as action
 use Rattle.page_store.specs.Stored.{Stored, groups_of, pages_of}
-use Rattle.page_pool.specs.Nodes.{Job, Job.Rests, Job.Fetches, Job.Runs, is_busy, plan_of, Handed, NodeState, is_able, resting, IsNode}
+use Rattle.page_pool.specs.Nodes.{Job, Job.Rests, Job.Fetches, Job.Runs, is_busy, plan_of, is_installed, Handed, NodeState, is_able, resting, IsNode}
 use Rattle.page_pool.specs.declared.events.How.{How}
 use Rattle.page_pool.specs.declared.events.PoolEvent.{PoolEvent}
 use Rattle.page_pool.specs.declared.events.PoolEvent.TheVariants.{Act, Deliver, Home, Ship, Fold, Evict}
@@ -62,6 +62,7 @@ handed_not made (Some q) p ne = other (nat_eq p q) refl
   where
     same-number : (p q : ℕ) → nat_eq p q ≡ true → q ≡ p
     same-number p q e = grind arith
+
     other : (b : Bool) → nat_eq p q ≡ b → (if b then page_handed made q else None) ≡ None
     other true e = absurd (ne (ap (λ (k : ℕ). Some k) (same-number p q e)))
     other false e = refl
@@ -104,6 +105,7 @@ others-same s t m ne = by-test (nat_eq m 0) refl
   where
     zero-number : (m : ℕ) → nat_eq m 0 ≡ true → m ≡ 0
     zero-number m e = grind arith
+
     by-test : (b : Bool) → nat_eq m 0 ≡ b → (if b then node_of t else resting) ≡ (if b then node_of s else resting)
     by-test true e = absurd (ne (zero-number m e))
     by-test false e = refl
@@ -258,3 +260,31 @@ appends s n lt ne =
 pub appended : (s : Plain) (n : ℕ) → IsBeside (state_of s) n action.Append → s.store.own ≢ []
 unfolding state_of
 appended s n h = h.3
+
+-- ---- what is always so of the one node
+pub zero_there : (s : Plain) (n : ℕ) → n ≡ 0 → n < (state_of s).nodes
+unfolding state_of
+zero_there s n e = subst (λ (k : ℕ). k < 1) (sym e) (lit< tt)
+
+pub zero_able : (s : Plain) (n : ℕ) → n ≡ 0 → is_able ((state_of s).node n) ≡ true
+unfolding state_of
+zero_able s n e = subst (λ (k : ℕ). is_able ((state_of s).node k) ≡ true) (sym e) refl
+
+pub zero_writes : (s : Plain) (n : ℕ) → n ≡ 0 → (state_of s).rw ≡ Some n
+unfolding state_of
+zero_writes s n e = ap (λ (k : ℕ). Some k) (sym e)
+
+never-installed : (w : Work) → is_installed (job_of w) ≡ false
+never-installed Rest = refl
+never-installed (Fetch page) = refl
+never-installed (Run plan) = refl
+
+pub zero_uninstalled : (s : Plain) (n : ℕ) → n ≡ 0 → is_installed ((state_of s).node n).job ≡ false
+unfolding state_of
+zero_uninstalled s n e = subst (λ (k : ℕ). is_installed ((state_of s).node k).job ≡ false) (sym e) (never-installed s.work)
+
+pub suits_next : (s : Plain) (n : ℕ) (a : Action) (h : How) → n ≡ 0 → Some a ≡ ((state_of s).node n).next → Suits (state_of s) (Act n a h)
+suits_next s n a h z e = (zero_there s n z, λ able. inl (sym e))
+
+pub suits_append : (s : Plain) (n : ℕ) (h : How) → n ≡ 0 → IsBeside (state_of s) n action.Append → Suits (state_of s) (Act n action.Append h)
+suits_append s n h z b = (zero_there s n z, λ able. inr b)

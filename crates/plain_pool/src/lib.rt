@@ -5,6 +5,8 @@
 mod acting;
 mod plain;
 mod serving;
+#[cfg(test)]
+mod tests;
 mod work;
 
 pub use plain::PlainPool;

@@ -49,12 +49,7 @@ impl PlainPool {
 
     /// An act that ends so.
     #[tactic(auto, using(crate::proofs::Moving::lost_steps, crate::proofs::Moving::cannot))]
-    fn act(
-        &mut self,
-        alloc: Global,
-        action: &Action,
-        how: How,
-    ) -> Result<PoolAnswer, WantOfMemory>
+    fn act(&mut self, alloc: Global, action: &Action, how: How) -> Result<PoolAnswer, WantOfMemory>
         requires may { MayAct (state_of self.old) 0 action.now }
         ensures steps { IfOk result (λ answer.
             Steps (Act 0 action.now how) answer (state_of self.old) (state_of self.new)) }

@@ -14,7 +14,7 @@ not-unseen e = cc
 pub returns-in-Lost : goal.returns-in-Lost
 returns-in-Lost c =
     let ne : c.args.how ≢ how.Made =
-        elim c.in-Lost.is [ inl e ↦ λ q. not-lost (sym e ∙ q) | inr e ↦ λ q. not-unseen (sym e ∙ q) ] in
+    elim c.in-Lost.is [ inl e ↦ λ q. not-lost (sym e ∙ q) | inr e ↦ λ q. not-unseen (sym e ∙ q) ] in
     record {
       steps = lost_steps c.args.self.now c.args.action.now c.args.how Lost ne (sym c.can_end.ensures ∙ c.if-not-can_end.false);
       err = tt;
