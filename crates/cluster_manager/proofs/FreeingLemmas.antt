@@ -9,7 +9,7 @@ use Rattle.slab_node.specs.Slabs.{no_slab, slab_at, AreSlabs, IsSlotOf, gave_bac
 use Rattle.std.specs.Option.{option_map}
 use Rattle.home_tables.specs.declared.entry.Entry.{Entry}
 use Rattle.home_tables.specs.Table.{entry_of, address_number, slot_in, slab_in, incarnation_in}
-use Rattle.cluster_manager.specs.Freeing.{Frees, IsLive, same_but_taken, goes}
+use Rattle.cluster_manager.specs.Freeing.{Frees, IsLive, IsSameButTaken, Goes}
 
 -- nothing is freed where no live address is to be
 pub none_freed : (T : ℕ → Type 0) (S : List SlabState) → ((x : ℕ) → T x → IsLive S x → ⊥) → Frees T S S
@@ -84,11 +84,11 @@ one_freed T S a slabs slot at only =
     freed_here : is_free (slab_at (gave_back_at S a) (slab_in (address_number a))).taken (slot_in (address_number a)) ≡ true
     freed_here = ap (λ (k : ℕ). is_free (slab_at (gave_back_at S a) k).taken (slot_in (address_number a))) here ∙ ap (λ (s : ℕ). is_free (slab_at (gave_back_at S a) a.slab).taken s) spot ∙ is_now
 
-    same : (k : ℕ) (b : Bool) → nat_eq k a.slab ≡ b → same_but_taken (slab_at S k) (slab_at (gave_back_at S a) k)
+    same : (k : ℕ) (b : Bool) → nat_eq k a.slab ≡ b → IsSameButTaken (slab_at S k) (slab_at (gave_back_at S a) k)
     same k true t =
         let is : k ≡ a.slab = eqb-true k a.slab t in
-        subst (λ (j : ℕ). same_but_taken (slab_at S j) (slab_at (gave_back_at S a) j)) (sym is) (subst (λ (U : SlabState). same_but_taken (slab_at S a.slab) U) (sym there) refl)
-    same k false t = subst (λ (U : SlabState). same_but_taken (slab_at S k) U) (sym (apart k t)) refl
+        subst (λ (j : ℕ). IsSameButTaken (slab_at S j) (slab_at (gave_back_at S a) j)) (sym is) (subst (λ (U : SlabState). IsSameButTaken (slab_at S a.slab) U) (sym there) refl)
+    same k false t = subst (λ (U : SlabState). IsSameButTaken (slab_at S k) U) (sym (apart k t)) refl
 
     -- another slot of the slab is as it was
     other_slot : (s : ℕ) → nat_eq s a.slot ≡ false → is_free (slab_at (gave_back_at S a) a.slab).taken s ≡ is_free (slab_at S a.slab).taken s
@@ -112,7 +112,7 @@ one_freed T S a slabs slot at only =
         subst (λ (j : ℕ). is_free (slab_at (gave_back_at S a) j).taken s ≡ is_free (slab_at S j).taken s) (sym is) (other_slot s u)
     beside k s false t c u none = ap (λ (U : SlabState). is_free U.taken s) (apart k t)
 
-live_after : (S S' : List SlabState) → ((k : ℕ) → same_but_taken (slab_at S k) (slab_at S' k)) → (x : ℕ) → IsLive S x → IsLive S' x
+live_after : (S S' : List SlabState) → ((k : ℕ) → IsSameButTaken (slab_at S k) (slab_at S' k)) → (x : ℕ) → IsLive S x → IsLive S' x
 live_after S S' same x live =
     let k : ℕ = slab_in x in
     record {
@@ -121,7 +121,7 @@ live_after S S' same x live =
       within = subst (λ (n : ℕ). slot_in x < n) (sym (ap (λ (U : SlabState). length U.pages) (same k))) live.within;
     }
 
-live_before : (S S' : List SlabState) → ((k : ℕ) → same_but_taken (slab_at S k) (slab_at S' k)) → (x : ℕ) → IsLive S' x → IsLive S x
+live_before : (S S' : List SlabState) → ((k : ℕ) → IsSameButTaken (slab_at S k) (slab_at S' k)) → (x : ℕ) → IsLive S' x → IsLive S x
 live_before S S' same x live =
     let k : ℕ = slab_in x in
     record {
@@ -160,9 +160,9 @@ chosen false o a h = (refl, sym h)
 
 -- the slot of an entry that is removed is given back
 pub entry_freed : (e : Entry) (tail : ℕ) (S S' : List SlabState) (a : Addr) → AreSlabs S → IsSlotOf S a → Some a ≡ (if stays (entry_of (Some e)) tail then None else e.addr) → S' ≡ gave_back_at S a
-    → Frees (goes (entry_of (Some e)) tail) S S'
+    → Frees (Goes (entry_of (Some e)) tail) S S'
 entry_freed e tail S S' a slabs slot choice given =
     let parts = chosen (stays (entry_of (Some e)) tail) e.addr a choice in
     let at : (entry_of (Some e)).address ≡ Some (address_number a) = ap (λ (o : Option Addr). option_map address_number o) parts.1 in
-    subst (λ (T : List SlabState). Frees (goes (entry_of (Some e)) tail) S T) (sym given)
-    (one_freed (goes (entry_of (Some e)) tail) S a slabs slot (at, parts.0) (λ x h. let same : Some x ≡ Some (address_number a) = sym h.0 ∙ at in cc))
+    subst (λ (T : List SlabState). Frees (Goes (entry_of (Some e)) tail) S T) (sym given)
+    (one_freed (Goes (entry_of (Some e)) tail) S a slabs slot (at, parts.0) (λ x h. let same : Some x ≡ Some (address_number a) = sym h.0 ∙ at in cc))

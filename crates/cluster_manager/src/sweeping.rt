@@ -2,7 +2,7 @@ ghost use Rattle.std.specs.Prelude.{◌≡◌, Some, None, if◌then◌else◌};
 ghost use Rattle.home_model.specs.Entry.{stays, swept};
 ghost use Rattle.home_tables.specs.Table.{entry_of};
 ghost use Rattle.home_tables.specs.Home.{entry_at};
-ghost use Rattle.cluster_manager.specs.Freeing.{Frees, goes, GoesAt};
+ghost use Rattle.cluster_manager.specs.Freeing.{Frees, Goes, GoesAt};
 
 use home_tables::{Entry, Home};
 use rm_base::{Addr, Lsn};
@@ -17,7 +17,7 @@ fn freed(entry: &Entry, tail: Lsn) -> Option<Addr>
 
 /// Frees the slot of the entry, where the sweep removes it.
 fn free_slot(entry: &Entry, slabs: &mut Slabs, tail: Lsn)
-    ensures { Frees (goes (entry_of (Some entry.now)) tail) slabs.old slabs.new }
+    ensures { Frees (Goes (entry_of (Some entry.now)) tail) slabs.old slabs.new }
 {
     let Some(address) = freed(entry, tail) else {
         return;
