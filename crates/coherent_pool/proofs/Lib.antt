@@ -1,0 +1,13 @@
+pub mod Tables
+pub mod Fetches
+pub mod Copies
+pub mod Places
+pub mod Moves
+pub mod Steps
+pub mod Answering
+pub mod Quitting
+pub mod Lawful
+pub mod NextAct
+pub mod WhatIsWanted
+pub mod Moving
+pub mod Joining

@@ -1,0 +1,33 @@
+use Rattle.std.proofs.Common.{◌≡◌, List, Option, Some, None, set, sym, subst, ap}
+use Rattle.std.specs.List.{position}
+use Rattle.page_image.specs.Image.{Image}
+use Rattle.coherent_pool.specs.declared.works.FetchWork.{FetchWork}
+use Rattle.coherent_pool.specs.Works.{is_of, work_at, SetsWork, loaded_work, having}
+use Rattle.coherent_pool.proofs.Fetches.{page_at, apart_by, sets_by, sets_none}
+use Rattle.coherent_pool.proofs.works.Works.set_image.Goals as goal
+
+pub invariant_of-self : goal.invariant_of-self
+invariant_of-self c =
+    let ws = c.self.inside.items.items in
+    let p = c.args.page in
+    let at : position (is_of p) ws ≡ Some c.in-Some.at = subst (λ (xs : List FetchWork). position (is_of p) xs ≡ Some c.in-Some.at) c.as_slice.ensures.value (sym c.in-Some.ensures) in
+    apart_by ws p c.in-Some.at _ c.self.invariant at (page_at ws p c.in-Some.at c.index_mut.result.now at c.index_mut.ensures.value)
+
+pub returns-in-Some : goal.returns-in-Some
+returns-in-Some c =
+    let ws = c.self.inside.items.items in
+    let p = c.args.page in
+    let d = c.index_mut.result.now in
+    let at : position (is_of p) ws ≡ Some c.in-Some.at = subst (λ (xs : List FetchWork). position (is_of p) xs ≡ Some c.in-Some.at) c.as_slice.ensures.value (sym c.in-Some.ensures) in
+    let w : FetchWork = record d { image = c.replace.new.dest } in
+    let same : w ≡ having c.args.image d = ap (λ (o : Option Image). let x : FetchWork = record d { image = o } in x) c.replace.ensures.after in
+    let P : List FetchWork → Type 0 = λ xs. SetsWork p (loaded_work c.args.image (work_at xs p)) xs (set ws c.in-Some.at w) in
+    subst P c.self.view_is (sets_by (having c.args.image) ws p c.in-Some.at d w at c.index_mut.ensures.value same (page_at ws p c.in-Some.at d at c.index_mut.ensures.value))
+
+pub returns-in-None : goal.returns-in-None
+returns-in-None c =
+    let ws = c.self.inside.items.items in
+    let p = c.args.page in
+    let at : position (is_of p) ws ≡ None = subst (λ (xs : List FetchWork). position (is_of p) xs ≡ None) c.as_slice.ensures.value (sym c.in-None.ensures) in
+    let P : List FetchWork → Type 0 = λ xs. SetsWork p (loaded_work c.args.image (work_at xs p)) xs xs in
+    subst P c.self.view_is (sets_none (having c.args.image) ws p at)

@@ -1,0 +1,32 @@
+use Rattle.std.proofs.Common.{◌≡◌, List, Some, None, set, sym, subst, ◌∙◌, ap}
+use Rattle.fetch_steps.specs.Fetch.{Fetch}
+use Rattle.std.specs.List.{position}
+use Rattle.coherent_pool.specs.declared.works.FetchWork.{FetchWork}
+use Rattle.coherent_pool.specs.Works.{is_of, work_at, SetsWork, told_work, heard_work}
+use Rattle.coherent_pool.proofs.Fetches.{page_at, apart_by, sets_by, sets_none}
+use Rattle.coherent_pool.proofs.works.Works.told.Goals as goal
+
+pub invariant_of-self : goal.invariant_of-self
+invariant_of-self c =
+    let ws = c.self.inside.items.items in
+    let p = c.args.page in
+    let at : position (is_of p) ws ≡ Some c.in-Some.at = subst (λ (xs : List FetchWork). position (is_of p) xs ≡ Some c.in-Some.at) c.as_slice.ensures.value (sym c.in-Some.ensures) in
+    apart_by ws p c.in-Some.at _ c.self.invariant at (c.told.ensures.same.0 ∙ page_at ws p c.in-Some.at c.index_mut.result.now at c.index_mut.ensures.value)
+
+pub returns-in-Some : goal.returns-in-Some
+returns-in-Some c =
+    let ws = c.self.inside.items.items in
+    let p = c.args.page in
+    let d = c.index_mut.result.now in
+    let at : position (is_of p) ws ≡ Some c.in-Some.at = subst (λ (xs : List FetchWork). position (is_of p) xs ≡ Some c.in-Some.at) c.as_slice.ensures.value (sym c.in-Some.ensures) in
+    let w : FetchWork = record d { step = c.told.new.self } in
+    let P : List FetchWork → Type 0 = λ xs. SetsWork p (told_work c.args.told.now (work_at xs p)) xs (set ws c.in-Some.at w) in
+    subst P c.self.view_is (sets_by (heard_work c.args.told.now) ws p c.in-Some.at d w at c.index_mut.ensures.value (ap (λ (s : Fetch). let x : FetchWork = record d { step = s } in x) c.told.ensures.exact) (c.told.ensures.same.0 ∙ page_at ws p c.in-Some.at d at c.index_mut.ensures.value))
+
+pub returns-in_default : goal.returns-in_default
+returns-in_default c =
+    let ws = c.self.inside.items.items in
+    let p = c.args.page in
+    let at : position (is_of p) ws ≡ None = subst (λ (xs : List FetchWork). position (is_of p) xs ≡ None) c.as_slice.ensures.value (sym c.in_default.ensures) in
+    let P : List FetchWork → Type 0 = λ xs. SetsWork p (told_work c.args.told.now (work_at xs p)) xs xs in
+    subst P c.self.view_is (sets_none (heard_work c.args.told.now) ws p at)

@@ -1,0 +1,13 @@
+pub mod Known
+pub mod Works
+pub mod Node
+pub mod Changing
+pub mod Keeping
+pub mod Hearing
+pub mod Standing
+pub mod Laws
+pub mod Acting
+pub mod Wanting
+pub mod Calls
+pub mod Moved
+pub mod Joined

@@ -1,0 +1,25 @@
+-- Stated: what a step of a fetch asks for next, by its kind.
+use Rattle.node_model.specs.Step.{Step}
+use Rattle.coherent_pool.specs.declared.wanting.Wants.{Wants}
+use Rattle.coherent_pool.specs.declared.wanting.Wants.TheVariants.{Register, Share, Exclude, Release, Look, Read, Get, Write, Clean, Nothing}
+
+abbrev pub wants_of : Step → Wants
+wants_of Step.Register = Register
+wants_of Step.LatchS = Share
+wants_of Step.BackToS = Share
+wants_of (Step.LastS v) = Share
+wants_of Step.LatchX = Exclude
+wants_of Step.ReleaseS = Release
+wants_of Step.ReleaseDown = Release
+wants_of Step.ReleaseEnd = Release
+wants_of Step.RwBack = Release
+wants_of (Step.RwEnd v) = Release
+wants_of Step.Look = Look
+wants_of Step.LookAgain = Look
+wants_of Step.RwLook = Look
+wants_of Step.Read = Read
+wants_of Step.RwRead = Read
+wants_of (Step.Get floor) = Get
+wants_of (Step.Write v) = Write
+wants_of (Step.Clean v) = Clean
+wants_of step = Nothing
