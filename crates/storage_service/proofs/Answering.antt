@@ -1,17 +1,15 @@
 -- The answer to a request for a page.
-use Rattle.std.proofs.Common.{◌≡◌, ◌≤◌, ◌<◌, ◌+◌, ◌++◌, ℕ, zero, suc, add-zero, Bool, true, false, cond, nat_lt, List, [], ◌∷◌, length, take, drop, Option, Some, None, Result, Ok, Err, IfOk, refl, sym, ap, subst, ◌∙◌, arith}
+use Rattle.std.proofs.Common.{◌≡◌, ◌≤◌, ◌<◌, ◌+◌, ℕ, zero, suc, add-zero, cond, nat_lt, List, [], ◌∷◌, length, take, drop, Result, Ok, Err, IfOk, sym, ap, subst, ◌∙◌, arith}
 use Rattle.std.proofs.lemmas.List.{length-take-le, take-append-drop}
 use Rattle.page_image.specs.Image.{Image}
 use Rattle.message_model.specs.declared.Got.{Got}
 use Rattle.message_model.specs.declared.Got.TheVariants as got
-use Rattle.message_network.specs.declared.calls.Reply.{Reply}
-use Rattle.message_network.specs.declared.calls.Reply.TheVariants.{Fenced}
 use Rattle.redo_record.specs.declared.redo.Group.{Group}
 use Rattle.redo_record.specs.Effect.{page_at, ArePast, CountsFrom}
 use Rattle.redo_record.proofs.Fold.{page_at-past, Ascends-past, CountsFrom-ascends}
 use Rattle.page_chunks.specs.Chunk.{Chunk, HasGot, answer_by}
 use Rattle.log_chunks.specs.Log.{Log}
-use Rattle.storage_service.specs.Storage.{Storage, Parts, storage_of, chunk_of, chunk_at, answer_at, get_answer}
+use Rattle.storage_service.specs.Storage.{Parts, storage_of, chunk_of, chunk_at, answer_at, get_answer}
 use Rattle.storage_service.specs.Keeping.{IsKept}
 use Rattle.storage_service.proofs.Views.{fits}
 

@@ -1,12 +1,10 @@
 -- The log grows.
-use Rattle.std.proofs.Common.{◌≡◌, ◌≤◌, ◌<◌, ◌+◌, ℕ, Bool, true, false, cond, nat_lt, List, [], ◌∷◌, ◌++◌, length, length-append, take, append-nil, refl, sym, ap, subst, ◌∙◌, arith}
+use Rattle.std.proofs.Common.{◌≡◌, ◌≤◌, ◌<◌, ℕ, Bool, true, false, cond, nat_lt, List, [], ◌++◌, length, length-append, take, refl, sym, ap, subst, ◌∙◌, arith}
 use Rattle.std.proofs.lemmas.Bool.{ltb-true, ltb-false}
 use Rattle.std.proofs.lemmas.List.{take-append-le, get_or_past}
-use Rattle.page_image.specs.Image.{unmade}
 use Rattle.message_model.specs.declared.Appended.{Appended}
 use Rattle.message_model.specs.declared.Appended.TheVariants.{Kept, WrongOffset, Fenced}
 use Rattle.redo_record.specs.declared.redo.Group.{Group}
-use Rattle.redo_record.specs.Effect.{GroupsApply}
 use Rattle.redo_record.specs.Spelling.{Spells}
 use Rattle.redo_record.proofs.Logs.{one_list}
 use Rattle.log_chunks.specs.Log.{Log, AreNext, GoesOn, AreLog, is_kept, longer, Appends}

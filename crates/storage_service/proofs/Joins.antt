@@ -1,6 +1,5 @@
 -- Storage in the words of the laws of the log and of the pool.
-use Rattle.std.proofs.Common.{◌≡◌, ◌≤◌, ◌<◌, ◌+◌, ◌++◌, ℕ, Bool, true, false, cond, nat_eq, nat_lt, nat_le, List, [], length, sum_by, refl, sym, ap, subst, ◌∙◌, arith}
-use Rattle.std.specs.List.{flat_map}
+use Rattle.std.proofs.Common.{◌≡◌, ◌≤◌, ◌+◌, ◌++◌, ℕ, Bool, true, false, cond, nat_eq, nat_lt, nat_le, List, length, sum_by, refl, sym, ap, subst, ◌∙◌, arith}
 use Rattle.std.proofs.lemmas.List.Concat.{length-flat_map}
 use Rattle.page_image.specs.Image.{Image}
 use Rattle.message_model.specs.declared.Appended.{Appended}
@@ -14,13 +13,12 @@ use Rattle.redo_durability.specs.Machine.{State as LogState, handling}
 use Rattle.call_model.specs.Callers.{Label}
 use Rattle.call_model.specs.Stages.{Effect.Handles as HandlesCall}
 use Rattle.message_network.specs.declared.calls.Reply.{Reply}
-use Rattle.log_chunks.specs.Log.{Log, tail_of, answer_to, longer, Appends}
+use Rattle.log_chunks.specs.Log.{Log, tail_of, answer_to, Appends}
 use Rattle.page_coherence.specs.History.{image_at}
-use Rattle.page_coherence.specs.Fold.{history_of}
 use Rattle.page_coherence.specs.Page.{Page}
 use Rattle.page_coherence.specs.Cluster.{State as Pages}
 use Rattle.page_coherence.proofs.Folding.{folds_at}
-use Rattle.pool_laws.specs.Calls.{StorageCall.GetPage, StorageCall.AppendGroups, StorageAnswer, StorageAnswer.GotImage, StorageAnswer.NotYet as GotNotYet, StorageAnswer.Appended as AppendedAs}
+use Rattle.pool_laws.specs.Calls.{StorageCall.GetPage, StorageCall.AppendGroups, StorageAnswer.GotImage, StorageAnswer.Appended as AppendedAs}
 use Rattle.pool_laws.specs.Serving.{Stores, got}
 use Rattle.storage_service.specs.Storage.{Storage, chunk_of, get_answer, answer_at}
 use Rattle.storage_service.specs.Serving.{HandlesAppend}

@@ -1,8 +1,8 @@
 -- A log is done to an unmade page whole.
-use Rattle.std.proofs.Common.{◌≡◌, ◌≤◌, ◌<◌, ◌+◌, ℕ, Bool, List, length, Result, is_ok, IsOk, IsTrue, ◌↔◌, subst, refl, sym, ap, ◌∙◌, arith}
+use Rattle.std.proofs.Common.{◌≡◌, ℕ, Bool, List, length, Result, is_ok, IsOk, IsTrue, ◌↔◌, subst, sym, ap, ◌∙◌, arith}
 use Rattle.redo_record.specs.declared.redo.Group.{Group}
 use Rattle.page_image.specs.Image.{Image, unmade}
-use Rattle.redo_record.specs.Effect.{past, up_to, CountsFrom, GroupsApply}
+use Rattle.redo_record.specs.Effect.{past, CountsFrom, GroupsApply}
 use Rattle.redo_record.proofs.Fold.{CountsFrom-up_to, CountsFrom-ascends, Ascends-past, up_to-all, past-all}
 use Rattle.materialiser.specs.Merging.{between}
 

@@ -1,5 +1,5 @@
 -- Storage where one chunk has changed.
-use Rattle.std.proofs.Common.{◌≡◌, ◌≢◌, ◌≤◌, ◌<◌, ◌+◌, ◌-◌, ◌*◌, ◌/◌, ℕ, zero, suc, Bool, true, false, not, IsTrue, ◌↔◌, Result, Ok, Err, OnOk, OnErr, cond, nat_eq, nat_lt, eqb-true, List, [], ◌++◌, length, set, length-set, take, drop, append-nil, append_assoc, refl, sym, ap, subst, ◌∙◌, arith}
+use Rattle.std.proofs.Common.{◌≡◌, ◌≢◌, ◌≤◌, ◌<◌, ◌+◌, ◌-◌, ℕ, zero, suc, Bool, true, false, not, IsTrue, ◌↔◌, Result, Ok, Err, OnOk, OnErr, cond, nat_eq, nat_lt, eqb-true, List, [], ◌++◌, length, set, length-set, take, append-nil, append_assoc, refl, sym, ap, subst, ◌∙◌, arith}
 use Rattle.std.proofs.lemmas.Bool.{ltb-true, ltb-false}
 use mathlib.Core.Path.{fun_ext}
 use Rattle.call_model.specs.Servers.{Server, put}

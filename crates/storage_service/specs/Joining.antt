@@ -1,13 +1,13 @@
 -- Stated: storage in the words of the laws of the log and of the pool.
-use Rattle.std.specs.Prelude.{◌≡◌, ◌≤◌, ℕ, List, ◌++◌, length}
+use Rattle.std.specs.Prelude.{◌≡◌, ℕ, List, ◌++◌, length}
 use Rattle.redo_record.specs.declared.redo.Group.{Group}
-use Rattle.redo_record.specs.Spelling.{group_bytes, Spells}
+use Rattle.redo_record.specs.Spelling.{group_bytes}
 use Rattle.redo_durability.specs.Store.{Store, Answer, Answer.Kept as KeptAt, Answer.WrongOffset as WrongAt, Answer.Fenced as FencedAt}
 use Rattle.message_model.specs.declared.Appended.{Appended}
 use Rattle.message_model.specs.declared.Appended.TheVariants.{Kept, WrongOffset, Fenced}
 use Rattle.message_model.specs.declared.Got.{Got}
 use Rattle.message_model.specs.declared.Got.TheVariants.{Image, NotYet}
-use Rattle.pool_laws.specs.Calls.{StorageAnswer, StorageAnswer.GotImage, StorageAnswer.NotYet as GotNotYet, StorageAnswer.Appended as AppendedAs}
+use Rattle.pool_laws.specs.Calls.{StorageAnswer, StorageAnswer.GotImage, StorageAnswer.NotYet as GotNotYet}
 use Rattle.log_chunks.specs.Log.{Log}
 use Rattle.page_coherence.specs.Page.{Page}
 use Rattle.page_coherence.specs.Fold.{history_of}

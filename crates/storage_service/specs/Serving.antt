@@ -1,7 +1,7 @@
 -- Stated: a call that is served once, and what storage does with a call that it handles.
 use Rattle.std.specs.Prelude.{◌≡◌, ℕ, true, List, length, Option, Some, None}
 use Rattle.call_model.specs.Callers.{Label}
-use Rattle.call_model.specs.Servers.{Server, Admission, Admission.Fenced as FencedCall, Admission.Old, Admission.Again, Admission.New, admit, keeping, fenced, forgetting}
+use Rattle.call_model.specs.Servers.{Admission, Admission.Fenced as FencedCall, Admission.Old, Admission.Again, Admission.New, admit, keeping, fenced, forgetting}
 use Rattle.message_network.specs.declared.calls.Reply.{Reply}
 use Rattle.message_network.specs.declared.calls.Reply.TheVariants.{Fenced, Appended as AppendedReply, Got as GotReply}
 use Rattle.log_chunks.specs.Log.{answer_to, is_kept, Appends}

@@ -1,5 +1,5 @@
 -- Stated: what it is that chunks get more of the log, and that a page is folded.
-use Rattle.std.specs.Prelude.{◌≡◌, ◌≤◌, ◌<◌, ◌+◌, ℕ, List, [], ◌++◌, length, take, drop}
+use Rattle.std.specs.Prelude.{◌≡◌, ◌≤◌, ◌+◌, ℕ, List, [], ◌++◌, length, take, drop}
 use Rattle.std.specs.List.{flat_map}
 use Rattle.call_model.specs.Servers.{put}
 use Rattle.redo_record.specs.declared.redo.Group.{Group}

@@ -1,5 +1,5 @@
 -- Stated: what storage has, and what it answers.
-use Rattle.std.specs.Prelude.{◌≡◌, ◌≤◌, ◌<◌, ◌/◌, ℕ, List, [], ◌∷◌, ◌++◌, length, nat_lt, slice_index_or, if◌then◌else◌}
+use Rattle.std.specs.Prelude.{◌<◌, ◌/◌, ℕ, List, [], ◌++◌, length, nat_lt, slice_index_or, if◌then◌else◌}
 use Rattle.rm_base.specs.declared.limits.TheConstants.{PAGES_PER_CHUNK, MAX_PAGES}
 use Rattle.page_image.specs.Image.{unmade}
 use Rattle.redo_record.specs.declared.redo.Group.{Group}

@@ -20,23 +20,29 @@ ghost use Rattle.log_chunks.specs.Log.{answer_to};
 /// run.
 pub fn storage_laws()
     // An append of groups is answered and kept as the store of the laws of the log does.
-    ensures answer { (S : Storage) (epoch offset : ℕ) (bytes : List ℕ) (groups : List Group) → Spells bytes groups
-        → said (answer_to S.log epoch offset (length bytes)) ≡ answer_by_law byte_count (store_of S.log) epoch offset groups }
-    ensures store { (S T : Storage) (l : Label) (offset : ℕ) (bytes : List ℕ) (groups : List Group) (r : Reply) → Spells bytes groups
+    ensures answer { (S : Storage) (epoch offset : ℕ) (bytes : List ℕ) (groups : List Group)
+        → Spells bytes groups → said (answer_to S.log epoch offset (length bytes))
+        ≡ answer_by_law byte_count (store_of S.log) epoch offset groups }
+    ensures store { (S T : Storage) (l : Label) (offset : ℕ) (bytes : List ℕ) (groups : List Group)
+        (r : Reply) → Spells bytes groups
         → HandlesAppend l offset bytes S r T
         → store_of T.log ≡ received byte_count (store_of S.log) l.epoch offset groups }
 
     // So it is the pool's handling of an append: the log's store becomes this one, and no page changes.
-    ensures append { (S T : Storage) (l : Label) (offset : ℕ) (bytes : List ℕ) (groups : List Group) (r : Reply)
-        (pages : Pages) (log : LogState Group) → Spells bytes groups → HandlesAppend l offset bytes S r T
+    ensures append { (S T : Storage) (l : Label) (offset : ℕ) (bytes : List ℕ) (groups : List Group)
+        (r : Reply) (pages : Pages) (log : LogState Group) → Spells bytes groups
+        → HandlesAppend l offset bytes S r T
         → log.store ≡ store_of S.log → log.epoch ≡ l.epoch
-        → Stores byte_count (HandlesCall l.node (AppendGroups offset groups) (AppendedAs (said (answer_to S.log l.epoch offset (length bytes)))))
+        → Stores byte_count (HandlesCall l.node (AppendGroups offset groups)
+        (AppendedAs (said (answer_to S.log l.epoch offset (length bytes)))))
         pages log pages (handling byte_count log log.epoch offset groups) }
 
     // The answer to a request for a page is the pool's, where the page's history is that of the log: it
     // tells the image at an LSN that storage has, and no page and no log changes.
     ensures get { (S : Storage) (n p floor : ℕ) (rest : List Group) (pages : Pages) (log : LogState Group)
-        → HasLog (pages.page p) p S.log.groups rest → CountsFrom 0 S.log.groups → CountsFrom (length S.log.groups) rest
+        → HasLog (pages.page p) p S.log.groups rest → CountsFrom 0 S.log.groups
+        → CountsFrom (length S.log.groups) rest
         → S.applied (chunk_of p) ≤ length S.log.groups → log.store ≡ store_of S.log
-        → Stores byte_count (HandlesCall n (GetPage p floor) (got_as (get_answer S p floor))) pages log pages log }
+        → Stores byte_count (HandlesCall n (GetPage p floor) (got_as (get_answer S p floor)))
+        pages log pages log }
 {}

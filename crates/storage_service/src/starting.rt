@@ -12,7 +12,8 @@ pub(crate) const CHUNKS: u8 = 128;
 /// Each chunk before a group is shipped to it, by its number.
 pub(crate) fn blank_chunks(alloc: Global) -> Result<Vec<PageChunk>, WantOfMemory>
     ensures all { IfOk result (λ chunks. length chunks.items ≡ 128) }
-    ensures each { IfOk result (λ chunks. (c : ℕ) → c < length chunks.items → IsBlank c (chunk_at chunks.items c)) }
+    ensures each { IfOk result (λ chunks. (c : ℕ) → c < length chunks.items
+        → IsBlank c (chunk_at chunks.items c)) }
 {
     let mut chunks = Vec::with_capacity(alloc, usize::from(CHUNKS))?;
     for number in 0..CHUNKS {

@@ -81,7 +81,8 @@ impl StorageService {
 
     /// The answer to the node's last call that was handled, if one is kept.
     fn again(&self, alloc: Global, token: &Token) -> Result<Option<Reply>, WantOfMemory>
-        ensures { IfOk result (λ reply. reply ≡ ((storage_of self.now).server.memory token.now.node).reply) }
+        ensures { IfOk result (λ reply. reply
+            ≡ ((storage_of self.now).server.memory token.now.node).reply) }
     {
         match self.server.last(token.node) {
             Some(reply) => Ok(Some(reply.copy(alloc)?)),
@@ -101,7 +102,8 @@ impl StorageService {
         requires brings { is_kept (answer_to (storage_of self.old).log token.now.epoch offset (length bytes.now)) ≡ true
             → Brings (storage_of self.old).log.groups bytes.now }
         ensures handled { IfOk result (λ reply. (r : Reply) × (reply ≡ Some r)
-            × HandlesAppend (labelled token.now call) offset bytes.now (storage_of self.old) r (storage_of self.new)) }
+            × HandlesAppend (labelled token.now call) offset bytes.now
+            (storage_of self.old) r (storage_of self.new)) }
         ensures err { OnErr result (self.new ≡ self.old) }
     {
         let before = self.log.last();
@@ -123,7 +125,8 @@ impl StorageService {
         bytes: &[u8],
     ) -> Result<Option<Reply>, WantOfMemory>
         requires { MayAppend (storage_of self.old) (labelled token.now call) offset bytes.now }
-        ensures served { IfOk result (λ reply. Served (HandlesAppend (labelled token.now call) offset bytes.now)
+        ensures served { IfOk result (λ reply. Served
+            (HandlesAppend (labelled token.now call) offset bytes.now)
             (labelled token.now call) (storage_of self.old) reply (storage_of self.new)) }
         ensures err { OnErr result (self.new ≡ self.old) }
     {
@@ -153,7 +156,8 @@ impl StorageService {
     ) -> Result<Option<Reply>, WantOfMemory>
         requires { admit (storage_of self.old).server (labelled token.now call) ≡ NewCall }
         ensures handled { IfOk result (λ reply. (r : Reply) × (reply ≡ Some r)
-            × HandlesGet (labelled token.now call) page floor (storage_of self.old) r (storage_of self.new)) }
+            × HandlesGet (labelled token.now call) page floor
+            (storage_of self.old) r (storage_of self.new)) }
         ensures err { OnErr result (self.new ≡ self.old) }
     {
         let reply = Reply::Got(self.image(alloc, page, floor)?);
@@ -203,7 +207,8 @@ impl StorageService {
     pub fn ship_one(&mut self, alloc: Global, c: u8) -> Result<(), WantOfMemory>
         requires chunk { c < 128 }
         requires behind { IsBehind (storage_of self.old) c }
-        ensures ok { OnOk result (storage_of self.new ≡ shipped (storage_of self.old) (one_more (storage_of self.old) c)) }
+        ensures ok { OnOk result (storage_of self.new
+            ≡ shipped (storage_of self.old) (one_more (storage_of self.old) c)) }
         ensures err { OnErr result (self.new ≡ self.old) }
     {
         let place = usize::from(c);
@@ -217,7 +222,8 @@ impl StorageService {
     pub fn ship_rest(&mut self, alloc: Global, c: u8) -> Result<(), WantOfMemory>
         requires { c < 128 }
         ensures ships { ShipsAt c (storage_of self.old) (storage_of self.new) }
-        ensures ok { OnOk result ((storage_of self.new).applied c ≡ length (storage_of self.old).log.groups) }
+        ensures ok { OnOk result ((storage_of self.new).applied c
+            ≡ length (storage_of self.old).log.groups) }
     {
         let place = usize::from(c);
         let applied = self.chunks[place].applied().number();
@@ -276,7 +282,8 @@ impl StorageService {
         requires { ((storage_of self.old).server.memory node).incarnation ≤ incarnation }
         ensures newer { ((storage_of self.old).server.memory node).incarnation < incarnation
             → storage_of self.new ≡ renewed (storage_of self.old) node incarnation }
-        ensures same { ((storage_of self.old).server.memory node).incarnation ≡ incarnation → self.new ≡ self.old }
+        ensures same { ((storage_of self.old).server.memory node).incarnation ≡ incarnation
+            → self.new ≡ self.old }
     {
         self.server.renew(node, incarnation);
     }

@@ -1,4 +1,4 @@
-use Rattle.std.proofs.Common.{◌≡◌, ◌<◌, ℕ, length}
+use Rattle.std.proofs.Common.{◌<◌, ℕ}
 use Rattle.page_image.specs.Image.{unmade}
 use Rattle.redo_record.specs.Effect.{GroupsApply}
 use Rattle.storage_service.proofs.applying.all_apply.Given as goal

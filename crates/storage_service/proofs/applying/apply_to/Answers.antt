@@ -1,9 +1,5 @@
-use Rattle.std.proofs.Common.{◌≡◌, ◌↔◌, IsTrue, IsOk, ℕ, List, length, sym, ap, subst, ◌∙◌, arith}
-use Rattle.page_image.specs.Image.{Image, unmade}
-use Rattle.redo_record.specs.declared.redo.Group.{Group}
-use Rattle.redo_record.specs.Effect.{GroupsApply}
+use Rattle.std.proofs.Common.{◌≡◌, length, arith}
 use Rattle.redo_record.proofs.Fold.{CountsFrom-ascends}
-use Rattle.materialiser.specs.Merging.{between}
 use Rattle.storage_service.proofs.Merging.{applies_when}
 use Rattle.storage_service.proofs.applying.apply_to.Goals as goal
 

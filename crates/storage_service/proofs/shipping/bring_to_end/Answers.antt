@@ -1,4 +1,4 @@
-use Rattle.std.proofs.Common.{◌≡◌, ◌+◌, ℕ, sym, subst}
+use Rattle.std.proofs.Common.{◌+◌, ℕ, sym, subst}
 use Rattle.storage_service.specs.Keeping.{IsBrought}
 use Rattle.storage_service.proofs.Bringing.{brought_on}
 use Rattle.storage_service.proofs.shipping.bring_to_end.Goals as goal

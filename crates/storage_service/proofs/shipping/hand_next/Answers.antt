@@ -2,7 +2,6 @@ use Rattle.std.proofs.Common.{◌≡◌, ◌+◌, ℕ, List, Some, None, sym, ap
 use Rattle.std.specs.List.{slice_get}
 use Rattle.std.specs.Option.{option_copied}
 use Rattle.redo_record.specs.declared.redo.Group.{Group}
-use Rattle.page_chunks.specs.Chunk.{Chunk}
 use Rattle.log_chunks.proofs.StoreLaws.{find-counted}
 use Rattle.storage_service.proofs.Bringing.{can_ship, brought_when, not_past}
 use Rattle.storage_service.proofs.shipping.hand_next.Goals as goal

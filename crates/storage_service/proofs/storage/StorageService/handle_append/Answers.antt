@@ -1,5 +1,4 @@
-use Rattle.std.proofs.Common.{◌≡◌, ℕ, true, List, length, cond, nat_lt, sym, ap, subst, ◌∙◌}
-use Rattle.message_model.specs.declared.Appended.{Appended}
+use Rattle.std.proofs.Common.{◌≡◌, ℕ, true, length, cond, nat_lt, sym, ap, subst, ◌∙◌}
 use Rattle.log_chunks.specs.Log.{Log, answer_to, is_kept}
 use Rattle.storage_service.specs.Storage.{Parts, Brings}
 use Rattle.storage_service.specs.Keeping.{IsKept}

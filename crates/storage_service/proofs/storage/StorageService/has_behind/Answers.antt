@@ -1,4 +1,4 @@
-use Rattle.std.proofs.Common.{◌≡◌, ◌<◌, ℕ, IsTrue, ◌↔◌, not, nat_eq, subst}
+use Rattle.std.proofs.Common.{◌<◌, ℕ, IsTrue, ◌↔◌, not, nat_eq, subst}
 use Rattle.storage_service.specs.Storage.{Parts, storage_of, IsBehind}
 use Rattle.storage_service.proofs.Views.{behind_when}
 use Rattle.storage_service.proofs.storage.StorageService.has_behind.Goals as goal

@@ -1,5 +1,4 @@
 use Rattle.std.proofs.Common.{◌≡◌, ℕ, cond, nat_lt, length, sym, ap, subst, ◌∙◌}
-use Rattle.message_network.specs.ServerView.{server_of}
 use Rattle.storage_service.specs.Keeping.{IsKept}
 use Rattle.storage_service.proofs.Appending.{start_keeps}
 use Rattle.storage_service.proofs.storage.StorageService.new.Goals as goal
