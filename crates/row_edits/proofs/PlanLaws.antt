@@ -138,7 +138,7 @@ named_leaf item other place root value leaf within e f =
     })
 
 pub placed : (g : RowGround) (item : LeafItem) (at : UndoPtr) → IsRowGround g → item ≡ pointing g.change.item at → IsPlaceIn g.change.begins item.value
-placed g item at ground e = subst (λ (i : LeafItem). IsPlaceIn g.change.begins i.value) (sym e) ground.roomy.is.place
+placed g item at basis e = subst (λ (i : LeafItem). IsPlaceIn g.change.begins i.value) (sym e) basis.roomy.is.place
 
 -- ---- the pages
 
@@ -173,11 +173,11 @@ same_room (Some place) root item path = refl
 pub put_fits : (g : RowGround) (item pointed : LeafItem) (step : UndoStep) (next : ℕ) (answer : Result Plan TreeNo) → IsRowGround g
     → pointed ≡ pointing g.change.item step.at → item ≡ naming g.change.begins next pointed
     → (IsOk answer ↔ (size_of item ≤ room_for item.key (leaf_on g.path))) → IsOk answer
-put_fits g item pointed step next answer ground ep ei h =
+put_fits g item pointed step next answer basis ep ei h =
     let e : item ≡ naming g.change.begins next (pointing g.change.item step.at) = ei ∙ ap (naming g.change.begins next) ep in
-    let fits : size_of g.change.item ≤ room_for g.change.item.key (leaf_on g.path) = room_on g.change.item g.path ground.roomy.way ground.roomy.room in
+    let fits : size_of g.change.item ≤ room_for g.change.item.key (leaf_on g.path) = room_on g.change.item g.path basis.roomy.way basis.roomy.room in
     let size : size_of (naming g.change.begins next (pointing g.change.item step.at)) ≡ size_of (pointing g.change.item step.at) =
-    same_size g.change.begins next (pointing g.change.item step.at) ground.roomy.is.place in
+    same_size g.change.begins next (pointing g.change.item step.at) basis.roomy.is.place in
     let same : room_for (naming g.change.begins next (pointing g.change.item step.at)).key (leaf_on g.path) ≡ room_for (pointing g.change.item step.at).key (leaf_on g.path) =
     same_room g.change.begins next (pointing g.change.item step.at) g.path in
     h.1 (subst (λ (i : LeafItem). size_of i ≤ room_for i.key (leaf_on g.path)) (sym e) (le_by size same fits))

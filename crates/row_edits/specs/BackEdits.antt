@@ -33,7 +33,7 @@ older = reading.older
 
 -- the one plan of the undo; then the place of the undo item before is told
 abbrev pub undoing : BackGround → BackWork
-undoing ground = asks (Runs (TakesBack ground)) (λ y. tells (taken.Back ground.undo.before))
+undoing basis = asks (Runs (TakesBack basis)) (λ y. tells (taken.Back basis.undo.before))
 
 abbrev pub grounded : ℕ → UndoItem → Path → Image → BackGround
 grounded session undo path slots =

@@ -19,9 +19,9 @@ pub record IsBackReady (undo : UndoItem) (path : List Image) : Type 0 where
   pub can : can_by undo.old path undo.key ≡ true
 
 -- the plan of the undo can be made
-pub record IsBackGround (ground : BackGround) : Type 0 where
-  pub ready : IsBackReady ground.undo ground.path
-  pub slots : IsSlots ground.slots
+pub record IsBackGround (basis : BackGround) : Type 0 where
+  pub ready : IsBackReady basis.undo basis.path
+  pub slots : IsSlots basis.slots
 
 abbrev pub Stands : BackStage → Type 0
 Stands (stage.Looking session at) = Unit {0}
@@ -30,6 +30,6 @@ Stands (stage.Lacking task path) = IsOld task.undo.key task.undo.old × IsWayTo 
 Stands (stage.Splitting task path meta) = IsOld task.undo.key task.undo.old × IsWayTo task.undo.key path × IsMeta meta
     × (room_back task.undo.old path meta ≡ room.Split)
 Stands (stage.Ready session undo path) = IsBackReady undo path
-Stands (stage.Undoing ground) = IsBackGround ground
+Stands (stage.Undoing basis) = IsBackGround basis
 Stands (stage.Told told) = Unit {0}
 Stands stage.Stopped = Unit {0}

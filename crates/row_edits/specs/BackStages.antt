@@ -15,6 +15,6 @@ work_of (stage.Lacking task path) =
 work_of (stage.Splitting task path meta) =
     splitting (back task.splits task.session task.undo) task.undo.old path meta
 work_of (stage.Ready session undo path) = slots_wanted session undo path
-work_of (stage.Undoing ground) = undoing ground
+work_of (stage.Undoing basis) = undoing basis
 work_of (stage.Told told) = tells told
 work_of stage.Stopped = stops

@@ -64,11 +64,11 @@ IsOneChange change given (asks ReadsMeta k) =
 IsOneChange change given (asks (Runs (Splits item path meta)) k) =
     (item ≡ change.item) × (path ≡ given.path) × (given.meta ≡ Some meta)
     × IsOneChange change nothing (k Ran)
-IsOneChange change given (asks (Runs (Changes ground)) k) =
-    (ground.change ≡ change) × (ground.path ≡ given.path) × (given.meta ≡ Some ground.meta)
-    × (given.undo ≡ Some ground.undo) × (given.slots ≡ Some ground.slots)
+IsOneChange change given (asks (Runs (Changes basis)) k) =
+    (basis.change ≡ change) × (basis.path ≡ given.path) × (given.meta ≡ Some basis.meta)
+    × (given.undo ≡ Some basis.undo) × (given.slots ≡ Some basis.slots)
     × (k Ran ≡ tells edited.Made)
-IsOneChange change given (asks (Runs (TakesBack ground)) k) = ⊥
+IsOneChange change given (asks (Runs (TakesBack basis)) k) = ⊥
 IsOneChange change given stops = Unit {0}
 
 abbrev pub ChangesOnce : Type 0
@@ -93,10 +93,10 @@ IsOneUndo session undo given (asks ReadsMeta k) =
 IsOneUndo session undo given (asks (Runs (Splits item path meta)) k) =
     (undo.old ≡ Some item) × (path ≡ given.path) × (given.meta ≡ Some meta)
     × IsOneUndo session undo nothing (k Ran)
-IsOneUndo session undo given (asks (Runs (Changes ground)) k) = ⊥
-IsOneUndo session undo given (asks (Runs (TakesBack ground)) k) =
-    (ground.session ≡ session) × (ground.undo ≡ undo) × (ground.path ≡ given.path)
-    × (given.slots ≡ Some ground.slots) × (k Ran ≡ tells (taken.Back undo.before))
+IsOneUndo session undo given (asks (Runs (Changes basis)) k) = ⊥
+IsOneUndo session undo given (asks (Runs (TakesBack basis)) k) =
+    (basis.session ≡ session) × (basis.undo ≡ undo) × (basis.path ≡ given.path)
+    × (given.slots ≡ Some basis.slots) × (k Ran ≡ tells (taken.Back undo.before))
 IsOneUndo session undo given stops = Unit {0}
 
 -- the undo of what the undo item says, where there is one

@@ -29,11 +29,11 @@ is_page n = nat_le n MAX_PAGE_ID
 
 -- the one plan of the change
 abbrev pub changing : RowGround → RowWork
-changing ground = asks (Runs (Changes ground)) (λ y. tells edited.Made)
+changing basis = asks (Runs (Changes basis)) (λ y. tells edited.Made)
 
 -- where pages are needed, for the undo item or for the root of a table, they have to be left
 abbrev pub with_slots : RowGround → RowWork
-with_slots ground = by (has_pages ground) (changing ground) (tells edited.SpaceFull)
+with_slots basis = by (has_pages basis) (changing basis) (tells edited.SpaceFull)
 
 abbrev pub grounded : RowChange → List Image → Image → Image → Image → RowGround
 grounded change path meta undo slots =

@@ -32,11 +32,11 @@ pub record IsRoomy (change : RowChange) (path : List Image) (meta : Image) : Typ
   pub room : has_room change.item path ≡ true
 
 -- the plan of the change can be made
-pub record IsRowGround (ground : RowGround) : Type 0 where
-  pub roomy : IsRoomy ground.change ground.path ground.meta
-  pub undo : ground.undo.kind ≡ kind.Undo
-  pub slots : IsSlots ground.slots
-  pub space : has_pages ground ≡ true
+pub record IsRowGround (basis : RowGround) : Type 0 where
+  pub roomy : IsRoomy basis.change basis.path basis.meta
+  pub undo : basis.undo.kind ≡ kind.Undo
+  pub slots : IsSlots basis.slots
+  pub space : has_pages basis ≡ true
 
 abbrev pub Stands : RowStage → Type 0
 Stands (stage.Down task walk) = IsChange task.change
@@ -44,6 +44,6 @@ Stands (stage.Arrived task path) = IsArrived task.change path
 Stands (stage.Splitting task path meta) = IsToSplit task.change path meta
 Stands (stage.Undo change path meta) = IsRoomy change path meta
 Stands (stage.Slots change path meta undo) = IsRoomy change path meta × (undo.kind ≡ kind.Undo)
-Stands (stage.Changing ground) = IsRowGround ground
+Stands (stage.Changing basis) = IsRowGround basis
 Stands (stage.Told edited) = Unit {0}
 Stands stage.Stopped = Unit {0}

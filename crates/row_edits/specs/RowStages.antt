@@ -13,6 +13,6 @@ work_of (stage.Splitting task path meta) =
     splitting (row task.splits task.change) task.change.item path meta
 work_of (stage.Undo change path meta) = undo_wanted change path meta
 work_of (stage.Slots change path meta undo) = slots_wanted change path meta undo
-work_of (stage.Changing ground) = changing ground
+work_of (stage.Changing basis) = changing basis
 work_of (stage.Told told) = tells told
 work_of stage.Stopped = stops

@@ -68,8 +68,8 @@ Asked stops x = ⊥
 
 abbrev pub IsPlanFor : Aim → Plan → Type 0
 IsPlanFor (Splits item path meta) plan = IsSplitFor item path meta plan
-IsPlanFor (Changes ground) plan = IsRowPlan ground plan
-IsPlanFor (TakesBack ground) plan = IsBackPlan ground plan
+IsPlanFor (Changes basis) plan = IsRowPlan basis plan
+IsPlanFor (TakesBack basis) plan = IsBackPlan basis plan
 
 -- a way begins with a root, and goes on with children
 abbrev pub step_to : List Image → ℕ → Fetch

@@ -104,44 +104,44 @@ pub(crate) fn fits(alloc: Global, path: &Path, item: &LeafItem) -> Result<bool, 
 }
 
 /// The leaf's part where an old item is put back.
-fn put_old(alloc: Global, ground: &BackGround, old: &LeafItem) -> Result<Plan, WantOfMemory>
-    requires ground { IsBackGround ground.now }
-    requires old { ground.now.undo.old ≡ Some old.now }
-    ensures plan { IfOk result (λ plan. plan ≡ spec.leaf_plan ground.now) }
-    ensures carries { IfOk result (λ plan. Carries ground.now.undo.key ground.now.path plan (spec.put_back ground.now.undo)) }
+fn put_old(alloc: Global, basis: &BackGround, old: &LeafItem) -> Result<Plan, WantOfMemory>
+    requires basis { IsBackGround basis.now }
+    requires old { basis.now.undo.old ≡ Some old.now }
+    ensures plan { IfOk result (λ plan. plan ≡ spec.leaf_plan basis.now) }
+    ensures carries { IfOk result (λ plan. Carries basis.now.undo.key basis.now.path plan (spec.put_back basis.now.undo)) }
 {
-    Ok(put_in(alloc, &ground.path, old)?.unwrap())
+    Ok(put_in(alloc, &basis.path, old)?.unwrap())
 }
 
 /// The leaf's part where the item is taken away.
-fn take_new(alloc: Global, ground: &BackGround) -> Result<Plan, WantOfMemory>
-    requires ground { IsBackGround ground.now }
-    requires old { ground.now.undo.old ≡ None }
-    ensures plan { IfOk result (λ plan. plan ≡ spec.leaf_plan ground.now) }
-    ensures carries { IfOk result (λ plan. Carries ground.now.undo.key ground.now.path plan (spec.put_back ground.now.undo)) }
+fn take_new(alloc: Global, basis: &BackGround) -> Result<Plan, WantOfMemory>
+    requires basis { IsBackGround basis.now }
+    requires old { basis.now.undo.old ≡ None }
+    ensures plan { IfOk result (λ plan. plan ≡ spec.leaf_plan basis.now) }
+    ensures carries { IfOk result (λ plan. Carries basis.now.undo.key basis.now.path plan (spec.put_back basis.now.undo)) }
 {
-    Ok(take_out(alloc, &ground.path, &ground.undo.key)?.unwrap())
+    Ok(take_out(alloc, &basis.path, &basis.undo.key)?.unwrap())
 }
 
 /// The leaf's part: the old item is put back, or the new one is taken away.
-fn leaf_plan(alloc: Global, ground: &BackGround) -> Result<Plan, WantOfMemory>
-    requires { IsBackGround ground.now }
-    ensures plan { IfOk result (λ plan. plan ≡ spec.leaf_plan ground.now) }
-    ensures carries { IfOk result (λ plan. Carries ground.now.undo.key ground.now.path plan (spec.put_back ground.now.undo)) }
+fn leaf_plan(alloc: Global, basis: &BackGround) -> Result<Plan, WantOfMemory>
+    requires { IsBackGround basis.now }
+    ensures plan { IfOk result (λ plan. plan ≡ spec.leaf_plan basis.now) }
+    ensures carries { IfOk result (λ plan. Carries basis.now.undo.key basis.now.path plan (spec.put_back basis.now.undo)) }
 {
-    match &ground.undo.old {
-        None => take_new(alloc, ground),
-        Some(old) => put_old(alloc, ground, old),
+    match &basis.undo.old {
+        None => take_new(alloc, basis),
+        Some(old) => put_old(alloc, basis, old),
     }
 }
 
 /// The records of the leaf and of the slot in one plan.
-fn joined_back(alloc: Global, ground: &BackGround, plan: Plan) -> Result<Plan, WantOfMemory>
-    requires slots { IsSlots ground.now.slots }
+fn joined_back(alloc: Global, basis: &BackGround, plan: Plan) -> Result<Plan, WantOfMemory>
+    requires slots { IsSlots basis.now.slots }
     requires pages { length plan.pages ≤ 5 }
-    ensures plan { IfOk result (λ whole. whole ≡ spec.joined_back ground.now plan) }
-    ensures pointed { IfOk result (λ _. Points ground.now.slots ground.now.session ground.now.undo.before
-        (points ground.now.slots ground.now.session ground.now.undo.before ∷ [])) }
+    ensures plan { IfOk result (λ whole. whole ≡ spec.joined_back basis.now plan) }
+    ensures pointed { IfOk result (λ _. Points basis.now.slots basis.now.session basis.now.undo.before
+        (points basis.now.slots basis.now.session basis.now.undo.before ∷ [])) }
 {
     let Plan {
         kind: _,
@@ -152,11 +152,11 @@ fn joined_back(alloc: Global, ground: &BackGround, plan: Plan) -> Result<Plan, W
     push_pointer(
         alloc,
         &mut records,
-        &ground.slots,
-        ground.session,
-        ground.undo.before,
+        &basis.slots,
+        basis.session,
+        basis.undo.before,
     )?;
-    pages.try_push(ground.slots.page()).unwrap();
+    pages.try_push(basis.slots.page()).unwrap();
     Ok(Plan {
         kind: PlanKind::Undo,
         pages,
@@ -167,10 +167,10 @@ fn joined_back(alloc: Global, ground: &BackGround, plan: Plan) -> Result<Plan, W
 
 /// The plan that undoes the change.
 #[tactic(auto, using(crate::proofs::BackLaws::is_back_plan, crate::proofs::BackLaws::few_pages))]
-pub(crate) fn back_plan(alloc: Global, ground: &BackGround) -> Result<Plan, WantOfMemory>
-    requires { IsBackGround ground.now }
-    ensures { IfOk result (IsBackPlan ground.now) }
+pub(crate) fn back_plan(alloc: Global, basis: &BackGround) -> Result<Plan, WantOfMemory>
+    requires { IsBackGround basis.now }
+    ensures { IfOk result (IsBackPlan basis.now) }
 {
-    let plan = leaf_plan(alloc, ground)?;
-    joined_back(alloc, ground, plan)
+    let plan = leaf_plan(alloc, basis)?;
+    joined_back(alloc, basis, plan)
 }

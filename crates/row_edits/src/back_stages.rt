@@ -203,7 +203,7 @@ pub(crate) fn run(alloc: Global, stage: BackStage) -> BackStage
             } = task;
             begin(alloc, session, undo, splits)
         }
-        BackStage::Undoing(ground) => BackStage::Told(Taken::Back(ground.undo.before)),
+        BackStage::Undoing(basis) => BackStage::Told(Taken::Back(basis.undo.before)),
         BackStage::Looking(_, _) => BackStage::Stopped,
         BackStage::Down(_, _) => BackStage::Stopped,
         BackStage::Lacking(_, _) => BackStage::Stopped,
@@ -265,7 +265,7 @@ pub(crate) fn act_of(alloc: Global, stage: &BackStage) -> Result<Option<Act>, Wa
         BackStage::Lacking(task, _) => Ok(meta_for(&task.undo)),
         BackStage::Splitting(task, path, meta) => split_for(alloc, &task.undo, path, meta),
         BackStage::Ready(_, _, _) => Ok(Some(Act::Fetch(Fetch::Slots))),
-        BackStage::Undoing(ground) => Ok(Some(Act::Run(back_plan(alloc, ground)?))),
+        BackStage::Undoing(basis) => Ok(Some(Act::Run(back_plan(alloc, basis)?))),
         BackStage::Told(_) => Ok(None),
         BackStage::Stopped => Ok(None),
     }

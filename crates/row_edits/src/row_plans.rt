@@ -31,18 +31,18 @@ use undo_versions::{UndoItem, UndoStep, append_plan, push_undo_page};
 
 /// The undo item of the change.
 #[tactic(auto, using(crate::proofs::LeafLaws::rows_on, tree_change::proofs::WayLaws::some_pages))]
-fn undo_of(alloc: Global, ground: &RowGround) -> Result<UndoItem, WantOfMemory>
-    requires way { IsWayTo ground.now.change.item.key ground.now.path }
-    requires item { IsLeaf ground.now.change.item }
-    requires slots { IsSlots ground.now.slots }
-    ensures is { IfOk result (λ undo. undo ≡ spec.undo_of ground.now) }
+fn undo_of(alloc: Global, basis: &RowGround) -> Result<UndoItem, WantOfMemory>
+    requires way { IsWayTo basis.now.change.item.key basis.now.path }
+    requires item { IsLeaf basis.now.change.item }
+    requires slots { IsSlots basis.now.slots }
+    ensures is { IfOk result (λ undo. undo ≡ spec.undo_of basis.now) }
     ensures undo { IfOk result (λ undo. IsUndo (undone_of undo)) }
 {
-    let change = &ground.change;
+    let change = &basis.change;
     let _root = change.root.number();
-    let before = slot_of(&ground.slots, change.session).last;
+    let before = slot_of(&basis.slots, change.session).last;
     let key = change.item.key.copy(alloc)?;
-    let old = old_in(alloc, leaf_of(&ground.path), change.item.key.as_slice())?;
+    let old = old_in(alloc, leaf_of(&basis.path), change.item.key.as_slice())?;
     Ok(UndoItem {
         trx: change.item.trx,
         root: change.root,
@@ -75,32 +75,32 @@ fn has_root_room(begins: Option<u16>, root: u32) -> bool
 
 /// Whether there are pages for the undo item, which was planned, and for the root of a table.
 #[tactic(auto, using(crate::proofs::PlanLaws::pages_left, crate::proofs::PlanLaws::no_pages))]
-fn leaves_pages(ground: &RowGround, planned: Result<UndoStep, TreeNo>) -> bool
-    requires meta { IsMeta ground.now.meta }
-    requires full { IsErr planned ↔ (NeedsPage ground.now.undo (spec.undo_of ground.now)
-        × (MAX_PAGES ≤ counters.page_count ground.now.meta)) }
-    requires step { IfOk planned (λ step. step ≡ spec.step_of ground.now) }
-    ensures { result ≡ spec.has_pages ground.now }
+fn leaves_pages(basis: &RowGround, planned: Result<UndoStep, TreeNo>) -> bool
+    requires meta { IsMeta basis.now.meta }
+    requires full { IsErr planned ↔ (NeedsPage basis.now.undo (spec.undo_of basis.now)
+        × (MAX_PAGES ≤ counters.page_count basis.now.meta)) }
+    requires step { IfOk planned (λ step. step ≡ spec.step_of basis.now) }
+    ensures { result ≡ spec.has_pages basis.now }
 {
     match planned {
         Err(_) => false,
-        Ok(step) => has_root_room(ground.change.begins, next_page(&ground.meta, &step.made)),
+        Ok(step) => has_root_room(basis.change.begins, next_page(&basis.meta, &step.made)),
     }
 }
 
 /// Whether there are the pages that the change needs.
 #[tactic(auto, using(crate::proofs::PlanLaws::full_of, crate::proofs::PlanLaws::step_from))]
-pub(crate) fn has_pages(alloc: Global, ground: &RowGround) -> Result<bool, WantOfMemory>
-    requires way { IsWayTo ground.now.change.item.key ground.now.path }
-    requires item { IsLeaf ground.now.change.item }
-    requires slots { IsSlots ground.now.slots }
-    requires meta { IsMeta ground.now.meta }
-    requires undo { ground.now.undo.kind ≡ kind.Undo }
-    ensures { IfOk result (λ room. room ≡ spec.has_pages ground.now) }
+pub(crate) fn has_pages(alloc: Global, basis: &RowGround) -> Result<bool, WantOfMemory>
+    requires way { IsWayTo basis.now.change.item.key basis.now.path }
+    requires item { IsLeaf basis.now.change.item }
+    requires slots { IsSlots basis.now.slots }
+    requires meta { IsMeta basis.now.meta }
+    requires undo { basis.now.undo.kind ≡ kind.Undo }
+    ensures { IfOk result (λ room. room ≡ spec.has_pages basis.now) }
 {
-    let undo = undo_of(alloc, ground)?;
-    let planned = append_plan(alloc, &ground.meta, &ground.undo, &undo)?;
-    Ok(leaves_pages(ground, planned))
+    let undo = undo_of(alloc, basis)?;
+    let planned = append_plan(alloc, &basis.meta, &basis.undo, &undo)?;
+    Ok(leaves_pages(basis, planned))
 }
 
 /// The item, with a pointer to the version before.
@@ -286,40 +286,40 @@ fn with_page(pages: PageList, page: &Option<PageId>) -> PageList
     }
 }
 
-fn undo_page_of(ground: &RowGround, made: &Option<PageId>) -> PageId
-    ensures { result ≡ spec.undo_page_of ground.now made.now }
+fn undo_page_of(basis: &RowGround, made: &Option<PageId>) -> PageId
+    ensures { result ≡ spec.undo_page_of basis.now made.now }
 {
     match made {
-        None => ground.undo.page(),
+        None => basis.undo.page(),
         Some(page) => *page,
     }
 }
 
 /// The meta page, where a page is made.
-fn meta_page(ground: &RowGround, root: &Option<PageId>, made: &Option<PageId>) -> Option<PageId>
-    ensures { spec.pages_of result ≡ spec.meta_pages ground.now root.now made.now }
+fn meta_page(basis: &RowGround, root: &Option<PageId>, made: &Option<PageId>) -> Option<PageId>
+    ensures { spec.pages_of result ≡ spec.meta_pages basis.now root.now made.now }
 {
     if root.is_none() && made.is_none() {
         return None;
     }
-    Some(ground.meta.page())
+    Some(basis.meta.page())
 }
 
 /// The pages of the plan, behind those of the leaf.
 #[tactic(auto, using(crate::proofs::PlanLaws::one_or_none, crate::proofs::PlanLaws::pages_joined))]
 fn with_pages(
     pages: PageList,
-    ground: &RowGround,
+    basis: &RowGround,
     root: &Option<PageId>,
     made: &Option<PageId>,
 ) -> PageList
     requires { length pages ≤ 3 }
-    ensures { result ≡ pages ++ spec.other_pages ground.now root.now made.now }
+    ensures { result ≡ pages ++ spec.other_pages basis.now root.now made.now }
 {
     let mut pages = with_page(pages, root);
-    pages.try_push(undo_page_of(ground, made)).unwrap();
-    pages.try_push(ground.slots.page()).unwrap();
-    with_page(pages, &meta_page(ground, root, made))
+    pages.try_push(undo_page_of(basis, made)).unwrap();
+    pages.try_push(basis.slots.page()).unwrap();
+    with_page(pages, &meta_page(basis, root, made))
 }
 
 /// The pages that the plan makes.
@@ -334,18 +334,18 @@ fn made_list(root: &Option<PageId>, made: &Option<PageId>) -> PageList
 /// one plan.
 pub(crate) fn joined(
     alloc: Global,
-    ground: &RowGround,
+    basis: &RowGround,
     root: &Option<PageId>,
     put: Plan,
     step: UndoStep,
 ) -> Result<Plan, WantOfMemory>
-    requires meta { IsMeta ground.now.meta }
-    requires slots { IsSlots ground.now.slots }
+    requires meta { IsMeta basis.now.meta }
+    requires slots { IsSlots basis.now.slots }
     requires pages { length put.pages ≤ 3 }
-    ensures plan { IfOk result (λ plan. plan ≡ spec.joined_with ground.now root.now put step) }
-    ensures pointed { IfOk result (λ _. Points ground.now.slots ground.now.change.session step.at
-        (points ground.now.slots ground.now.change.session step.at ∷ [])) }
-    ensures counts { IfOk result (λ _. CountsFor ground.now.meta root.now step.made) }
+    ensures plan { IfOk result (λ plan. plan ≡ spec.joined_with basis.now root.now put step) }
+    ensures pointed { IfOk result (λ _. Points basis.now.slots basis.now.change.session step.at
+        (points basis.now.slots basis.now.change.session step.at ∷ [])) }
+    ensures counts { IfOk result (λ _. CountsFor basis.now.meta root.now step.made) }
 {
     let Plan {
         kind: _,
@@ -363,14 +363,14 @@ pub(crate) fn joined(
     push_pointer(
         alloc,
         &mut records,
-        &ground.slots,
-        ground.change.session,
+        &basis.slots,
+        basis.change.session,
         at,
     )?;
-    count_pages(alloc, &mut records, &ground.meta, root, &made)?;
+    count_pages(alloc, &mut records, &basis.meta, root, &made)?;
     Ok(Plan {
         kind: PlanKind::Change,
-        pages: with_pages(pages, ground, root, &made),
+        pages: with_pages(pages, basis, root, &made),
         made: made_list(root, &made),
         records,
     })
@@ -378,16 +378,16 @@ pub(crate) fn joined(
 
 /// The plan of the change.
 #[tactic(auto, using(crate::proofs::PlanLaws::is_row_plan, crate::proofs::PlanLaws::has_step, crate::proofs::PlanLaws::root_room, crate::proofs::PlanLaws::placed, crate::proofs::PlanLaws::put_page))]
-pub(crate) fn row_plan(alloc: Global, ground: &RowGround) -> Result<Plan, WantOfMemory>
-    requires { IsRowGround ground.now }
-    ensures { IfOk result (IsRowPlan ground.now) }
+pub(crate) fn row_plan(alloc: Global, basis: &RowGround) -> Result<Plan, WantOfMemory>
+    requires { IsRowGround basis.now }
+    ensures { IfOk result (IsRowPlan basis.now) }
 {
-    let undo = undo_of(alloc, ground)?;
-    let step = append_plan(alloc, &ground.meta, &ground.undo, &undo)?.unwrap();
-    let next = next_page(&ground.meta, &step.made);
-    let root = begun(ground.change.begins, next);
-    let pointing = pointing(alloc, &ground.change.item, step.at)?;
-    let item = naming(pointing, ground.change.begins, next);
-    let put = put_in(alloc, &ground.path, &item)?.unwrap();
-    joined(alloc, ground, &root, put, step)
+    let undo = undo_of(alloc, basis)?;
+    let step = append_plan(alloc, &basis.meta, &basis.undo, &undo)?.unwrap();
+    let next = next_page(&basis.meta, &step.made);
+    let root = begun(basis.change.begins, next);
+    let pointing = pointing(alloc, &basis.change.item, step.at)?;
+    let item = naming(pointing, basis.change.begins, next);
+    let put = put_in(alloc, &basis.path, &item)?.unwrap();
+    joined(alloc, basis, &root, put, step)
 }

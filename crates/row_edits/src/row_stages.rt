@@ -105,15 +105,15 @@ fn at_leaf(alloc: Global, task: RowTask, path: Path, meta: Page) -> Result<RowSt
 }
 
 /// Takes the slots page.
-fn grounded(alloc: Global, ground: RowGround) -> Result<RowStage, WantOfMemory>
-    requires roomy { IsRoomy ground.change ground.path ground.meta }
-    requires undo { ground.undo.kind ≡ kind.Undo }
-    requires slots { IsSlots ground.slots }
-    ensures work { IfOk result (λ next. work_of next ≡ spec.with_slots ground) }
+fn grounded(alloc: Global, basis: RowGround) -> Result<RowStage, WantOfMemory>
+    requires roomy { IsRoomy basis.change basis.path basis.meta }
+    requires undo { basis.undo.kind ≡ kind.Undo }
+    requires slots { IsSlots basis.slots }
+    ensures work { IfOk result (λ next. work_of next ≡ spec.with_slots basis) }
     ensures stands { IfOk result Stands }
 {
-    if has_pages(alloc, &ground)? {
-        return Ok(RowStage::Changing(ground));
+    if has_pages(alloc, &basis)? {
+        return Ok(RowStage::Changing(basis));
     }
     Ok(RowStage::Told(Edited::SpaceFull))
 }
@@ -196,7 +196,7 @@ pub(crate) fn act_of(alloc: Global, stage: &RowStage) -> Result<Option<Act>, Wan
         }
         RowStage::Undo(_, _, meta) => Ok(undo_fetch(meta)),
         RowStage::Slots(_, _, _, _) => Ok(Some(Act::Fetch(Fetch::Slots))),
-        RowStage::Changing(ground) => Ok(Some(Act::Run(row_plan(alloc, ground)?))),
+        RowStage::Changing(basis) => Ok(Some(Act::Run(row_plan(alloc, basis)?))),
         RowStage::Told(_) => Ok(None),
         RowStage::Stopped => Ok(None),
     }

@@ -147,15 +147,15 @@ fn first_ground(alloc: Global) -> Result<Option<RowGround>, WantOfMemory>
     let Some(slots) = page_of(alloc, 1, Kind::Slots)? else {
         return Ok(None);
     };
-    let ground = RowGround {
+    let basis = RowGround {
         change: change(alloc)?,
         path: Items::new(alloc),
         meta,
         undo,
         slots,
     };
-    if is_ground(&ground) {
-        Ok(Some(ground))
+    if is_ground(&basis) {
+        Ok(Some(basis))
     } else {
         Ok(None)
     }
@@ -179,8 +179,8 @@ fn step(alloc: Global, made: Option<PageId>) -> Result<UndoStep, WantOfMemory> {
 #[test]
 fn a_plan_has_leaf_and_undo_page_and_slots(rt: HostRuntime) -> Result<(), Fail> {
     let alloc = rt.alloc();
-    let ground = first_ground(alloc)?.ok_or("pages")?;
-    let plan = joined(alloc, &ground, &None, removal(alloc)?, step(alloc, None)?)?;
+    let basis = first_ground(alloc)?.ok_or("pages")?;
+    let plan = joined(alloc, &basis, &None, removal(alloc)?, step(alloc, None)?)?;
     assert!(rt; plan.pages.as_slice() == [id(10), id(20), id(1)].as_slice());
     assert!(rt; plan.made.is_empty());
     assert_eq!(rt; plan.records.len(), 3);
@@ -190,10 +190,10 @@ fn a_plan_has_leaf_and_undo_page_and_slots(rt: HostRuntime) -> Result<(), Fail> 
 #[test]
 fn a_page_that_is_made_is_counted(rt: HostRuntime) -> Result<(), Fail> {
     let alloc = rt.alloc();
-    let ground = first_ground(alloc)?.ok_or("pages")?;
+    let basis = first_ground(alloc)?.ok_or("pages")?;
     let plan = joined(
         alloc,
-        &ground,
+        &basis,
         &None,
         removal(alloc)?,
         step(alloc, Some(id(21)))?,

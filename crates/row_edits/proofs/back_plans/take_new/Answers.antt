@@ -4,4 +4,4 @@ use Rattle.row_edits.proofs.back_plans.take_new.Goals as goal
 pub unwrap-requires : goal.unwrap-requires
 unwrap-requires c =
     c.in_ok-take_out.ensures.there.1
-    (taken_there c.args.ground.now.undo.key c.args.ground.now.undo.old c.args.ground.now.path c.requires.old c.requires.ground.ready.can)
+    (taken_there c.args.basis.now.undo.key c.args.basis.now.undo.old c.args.basis.now.path c.requires.old c.requires.basis.ready.can)
