@@ -1,0 +1,6 @@
+pub mod AnswerLaws
+pub mod AskingLaws
+pub mod OutcomeLaws
+pub mod ReplyLaws
+pub mod ServingLaws
+pub mod TurnLaws

@@ -1,0 +1,17 @@
+//! The worker of a node that only reads.
+#![tactic(auto)]
+
+mod asking;
+mod kinds;
+mod latching;
+mod laws;
+mod replies;
+mod serving;
+mod turns;
+mod waiting;
+mod worker;
+
+pub use asking::{AskingReader, Read};
+pub use kinds::StatementKind;
+pub use laws::{answer_laws, latch_law};
+pub use worker::RoWorker;
