@@ -6,3 +6,4 @@ pub mod StageLaws
 pub mod BackLaws
 pub mod BackStageLaws
 pub mod OnceLaws
+pub mod TreeLaws

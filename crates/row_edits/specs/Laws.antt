@@ -12,7 +12,9 @@ use Rattle.row_edits.specs.declared.wishes.Taken.TheVariants as taken
 use Rattle.row_edits.specs.BackEdits.{BackWork, older, room_back, undo_wanted}
 use Rattle.row_edits.specs.Rooms.{room_of}
 use Rattle.row_edits.specs.RowEdits.{RowWork, grounded, row_work}
-use Rattle.row_edits.specs.RowPlans.{has_pages}
+use Rattle.tree_change.specs.Places.{leaf_on, with_key}
+use Rattle.tree_change.specs.Way.{IsWayTo}
+use Rattle.row_edits.specs.RowPlans.{first_of, has_pages, old_in}
 use Rattle.row_edits.specs.Wishes.{Wish, Input, Handed, Ran, Steps, ReadsUndo, ReadsSlots, ReadsMeta, Runs, Splits, Changes, TakesBack}
 
 -- the pages that were given since the change began at its root: those of the way, and the last meta,
@@ -110,6 +112,12 @@ ReadsItem session at (asks (ReadsUndo page) k) =
     (page ≡ at.page) × ((im : Image) → IsUndoOf session (older im at) (k (Handed im)))
 ReadsItem session at stops = Unit {0}
 ReadsItem session at other = ⊥
+
+-- the item with a key in the leaf at the end of its way is the one that the tree has
+abbrev pub FoundInTree : Type 0
+FoundInTree =
+    (key : List ℕ) (path : List Image) (w : IsWayTo key path)
+    → old_in (leaf_on path) key ≡ first_of (with_key key w.items)
 
 abbrev pub UndoesOnce : Type 0
 UndoesOnce = (session : ℕ) (at : UndoPtr) → ReadsItem session at (undo_wanted session at)

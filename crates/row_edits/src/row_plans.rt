@@ -360,13 +360,7 @@ pub(crate) fn joined(
     } = step;
     make_root(&mut records, root)?;
     append(&mut records, of_undo)?;
-    push_pointer(
-        alloc,
-        &mut records,
-        &basis.slots,
-        basis.change.session,
-        at,
-    )?;
+    push_pointer(alloc, &mut records, &basis.slots, basis.change.session, at)?;
     count_pages(alloc, &mut records, &basis.meta, root, &made)?;
     Ok(Plan {
         kind: PlanKind::Change,

@@ -124,19 +124,19 @@ fn removal(alloc: Global) -> Result<Plan, WantOfMemory>
     })
 }
 
-fn is_ground(stand: &RowGround) -> bool
-    ensures meta { IsTrue result → IsMeta stand.now.meta }
-    ensures slots { IsTrue result → IsSlots stand.now.slots }
+fn is_ground(basis: &RowGround) -> bool
+    ensures meta { IsTrue result → IsMeta basis.now.meta }
+    ensures slots { IsTrue result → IsSlots basis.now.slots }
 {
-    stand.meta.kind() == Kind::Meta
-        && stand.meta.page().number() == 0
-        && stand.slots.kind() == Kind::Slots
-        && stand.slots.page().number() == 1
+    basis.meta.kind() == Kind::Meta
+        && basis.meta.page().number() == 0
+        && basis.slots.kind() == Kind::Slots
+        && basis.slots.page().number() == 1
 }
 
-fn first_ground(alloc: Global) -> Result<Option<RowGround>, WantOfMemory>
-    ensures meta { IfOk result (λ o. IfSome o (λ g. IsMeta g.meta)) }
-    ensures slots { IfOk result (λ o. IfSome o (λ g. IsSlots g.slots)) }
+fn basis(alloc: Global) -> Result<Option<RowGround>, WantOfMemory>
+    ensures meta { IfOk result (λ basis. IfSome basis (λ g. IsMeta g.meta)) }
+    ensures slots { IfOk result (λ basis. IfSome basis (λ g. IsSlots g.slots)) }
 {
     let Some(meta) = page_of(alloc, 0, Kind::Meta)? else {
         return Ok(None);
@@ -179,7 +179,7 @@ fn step(alloc: Global, made: Option<PageId>) -> Result<UndoStep, WantOfMemory> {
 #[test]
 fn a_plan_has_leaf_and_undo_page_and_slots(rt: HostRuntime) -> Result<(), Fail> {
     let alloc = rt.alloc();
-    let basis = first_ground(alloc)?.ok_or("pages")?;
+    let basis = basis(alloc)?.ok_or("pages")?;
     let plan = joined(alloc, &basis, &None, removal(alloc)?, step(alloc, None)?)?;
     assert!(rt; plan.pages.as_slice() == [id(10), id(20), id(1)].as_slice());
     assert!(rt; plan.made.is_empty());
@@ -190,7 +190,7 @@ fn a_plan_has_leaf_and_undo_page_and_slots(rt: HostRuntime) -> Result<(), Fail> 
 #[test]
 fn a_page_that_is_made_is_counted(rt: HostRuntime) -> Result<(), Fail> {
     let alloc = rt.alloc();
-    let basis = first_ground(alloc)?.ok_or("pages")?;
+    let basis = basis(alloc)?.ok_or("pages")?;
     let plan = joined(
         alloc,
         &basis,
