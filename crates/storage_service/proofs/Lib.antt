@@ -6,3 +6,4 @@ pub mod Appending
 pub mod Answering
 pub mod Joins
 pub mod Merging
+pub mod LastFor

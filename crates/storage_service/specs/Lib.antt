@@ -3,3 +3,4 @@ pub mod Serving
 pub mod Shipping
 pub mod Keeping
 pub mod Joining
+pub mod Noting

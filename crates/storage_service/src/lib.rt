@@ -4,6 +4,7 @@
 
 mod applying;
 mod laws;
+mod noting;
 mod shipping;
 mod starting;
 mod storage;

@@ -8,16 +8,13 @@ ghost use Rattle.storage_service.specs.Storage.{storage_of, Brings, IsBehind, ge
 ghost use Rattle.storage_service.specs.Serving.{Served, HandlesAppend, HandlesGet, MayAppend, fenced_to, renewed};
 ghost use Rattle.storage_service.specs.Shipping.{shipped, one_more, ShipsAt, IsForward, folded};
 
-use crate::shipping::{bring_to_end, hand_next, without_done};
+use crate::noting::{NotedLog, chunk_place};
+use crate::shipping::{bring_next, bring_to_end, without_done};
 use crate::starting::{CHUNKS, behind_after, blank_chunks};
-use log_chunks::LogStore;
 use message_model::{Appended, Got};
 use message_network::{Admit, Reply, Server};
 use page_chunks::PageChunk;
-use rm_base::{
-    CallNo, Duplicate, Epoch, Incarnation, Lsn, NodeId, PAGES_PER_CHUNK, PageId, Token,
-    WantOfMemory,
-};
+use rm_base::{CallNo, Duplicate, Epoch, Incarnation, Lsn, NodeId, PageId, Token, WantOfMemory};
 use std::alloc::Global;
 use std::marker::Model;
 
@@ -26,7 +23,7 @@ use std::marker::Model;
 #[derive(Drop)]
 pub struct StorageService {
     server: Server,
-    log: LogStore,
+    log: NotedLog,
     chunks: Vec<PageChunk>,
     /// How many chunks have not got the whole log.
     behind: usize,
@@ -42,14 +39,6 @@ impl Model for StorageService {
     ghost view = { λ s. record { server = s.server; log = s.log; chunks = s.chunks.items } };
 
     ghost invariant = { λ s. IsKept (server_of s.server).epoch s.log s.chunks.items s.behind };
-}
-
-/// The place of the page's chunk.
-fn chunk_place(page: PageId) -> usize
-    ensures place { result ≡ page / PAGES_PER_CHUNK }
-    ensures bound { result < 128 }
-{
-    (page.number() / PAGES_PER_CHUNK) as usize
 }
 
 fn appended_reply(appended: &Appended) -> Reply
@@ -68,7 +57,7 @@ impl StorageService {
         ensures none { IfOk result (λ parts. (c : ℕ) → (storage_of parts).applied c ≡ 0) }
         ensures waiting { IfOk result (λ parts. (p : ℕ) → (storage_of parts).waiting p ≡ []) }
     {
-        let log = LogStore::new(alloc, log)?;
+        let log = NotedLog::new(alloc, log)?;
         let chunks = blank_chunks(alloc)?;
         let behind = behind_after(Lsn::new(0), log.last(), 0);
         Ok(StorageService {
@@ -212,7 +201,7 @@ impl StorageService {
         ensures err { OnErr result (self.new ≡ self.old) }
     {
         let place = usize::from(c);
-        hand_next(&mut self.chunks[place], alloc, &self.log)?;
+        bring_next(&mut self.chunks[place], alloc, &self.log)?;
         let behind = without_done(self.behind, &self.chunks[place], self.log.last());
         self.behind = behind;
         Ok(())

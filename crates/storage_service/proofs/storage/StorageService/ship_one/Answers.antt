@@ -17,6 +17,6 @@ returns-clause-ok c =
     let inside : place < length cs = omega arith in
     let read : c.index_mut.result.now ≡ chunk_at cs place = get_or_read cs place c.index_mut.result.now inside c.index_mut.ensures.value no_chunk in
     let srv = server_of c.self.inside.server in
-    subst (λ (P : Parts). storage_with srv c.self.inside.log (set cs place c.hand_next.new.chunk) ≡ shipped (storage_of P) (one_more (storage_of P) c.args.c)) c.self.view_is
-    (ship_view srv c.self.inside.server.epoch c.self.inside.log cs c.self.inside.behind c.args.c place c.index_mut.result.now c.hand_next.new.chunk
-    c.self.invariant c.requires.chunk at read c.in_ok-hand_next.ensures.ok)
+    subst (λ (P : Parts). storage_with srv c.self.inside.log (set cs place c.bring_next.new.chunk) ≡ shipped (storage_of P) (one_more (storage_of P) c.args.c)) c.self.view_is
+    (ship_view srv c.self.inside.server.epoch c.self.inside.log cs c.self.inside.behind c.args.c place c.index_mut.result.now c.bring_next.new.chunk
+    c.self.invariant c.requires.chunk at read c.in_ok-bring_next.ensures.ok)
