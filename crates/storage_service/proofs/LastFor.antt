@@ -1,10 +1,10 @@
 -- The last group with a record for a chunk.
-use Rattle.std.proofs.Common.{◌≡◌, ◌≢◌, ◌≤◌, ◌<◌, ◌+◌, ℕ, zero, suc, Bool, true, false, cond, nat_eq, eqb-true, ◌||◌, List, [], ◌∷◌, ◌++◌, length, length-append, add-zero, append-nil, map, filter, take, drop, Some, set, get_or, get_or-set_same, get_or-set_other, refl, sym, ap, subst, ◌∙◌, arith}
+use Rattle.std.proofs.Common.{◌≡◌, ◌≢◌, ◌≤◌, ◌<◌, ◌+◌, ℕ, zero, suc, Bool, true, false, cond, nat_eq, eqb-true, ◌||◌, List, [], ◌∷◌, ◌++◌, length, length-append, add-zero, append-nil, map, filter, take, drop, Some, set, get_or-set_same, get_or-set_other, refl, sym, ap, subst, ◌∙◌, arith}
 use Rattle.std.specs.List.{list_any}
 use Rattle.std.proofs.lemmas.Bool.{true≢false}
 use Rattle.redo_record.specs.declared.redo.Record.{Record}
 use Rattle.redo_record.specs.declared.redo.Group.{Group}
-use Rattle.redo_record.specs.Effect.{page_of, changes, CountsFrom, LeaveAlone}
+use Rattle.redo_record.specs.Effect.{page_of, CountsFrom, LeaveAlone}
 use Rattle.std.proofs.Math.Seq.{take-length}
 use Rattle.std.proofs.lemmas.List.{length-take-le, take-append-drop, drop_at}
 use Rattle.std.proofs.lemmas.List.Concat.{flat_map-cons}
@@ -14,7 +14,7 @@ use Rattle.message_model.specs.declared.Appended.{Appended}
 use Rattle.message_model.specs.declared.Appended.TheVariants.{Kept, WrongOffset, Fenced}
 use Rattle.log_chunks.specs.Log.{Log, GoesOn, is_kept, Appends}
 use Rattle.page_chunks.specs.Entries.{single, records_for}
-use Rattle.page_chunks.specs.Chunk.{Chunk, InChunk, HasGot, PassBy, skipped, waiting}
+use Rattle.page_chunks.specs.Chunk.{Chunk, HasGot, PassBy, skipped, waiting}
 use Rattle.storage_service.specs.Keeping.{IsBrought}
 use Rattle.storage_service.specs.Storage.{chunk_of}
 use Rattle.storage_service.proofs.Fronts.{between_more, between_one, front_of_front}

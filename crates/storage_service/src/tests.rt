@@ -1,4 +1,4 @@
-ghost use Rattle.std.specs.Prelude.{◌≡◌, [], IfOk};
+ghost use Rattle.std.specs.Prelude.{◌≡◌, ◌<◌, [], IfOk};
 ghost use Rattle.call_model.specs.Servers.{new_server};
 ghost use Rattle.storage_service.specs.Storage.{storage_of};
 
@@ -70,6 +70,33 @@ fn a_page_is_there_once_its_chunk_has_the_log(rt: HostRuntime) -> Result<(), Fai
         "it is answered again"
     );
     assert_eq!(rt; items(&mut storage, alloc, 1)?, None, "it is an older call");
+    Ok(())
+}
+
+/// How many groups the chunk gets, one by one, until it has the log.
+fn shipped_one_by_one(
+    storage: &mut StorageService,
+    alloc: Global,
+    c: u8,
+) -> Result<u8, WantOfMemory>
+    requires { c < 128 }
+{
+    for count in 0..9 {
+        if !storage.is_behind(c) {
+            return Ok(count);
+        }
+        storage.ship_one(alloc, c)?;
+    }
+    Ok(9)
+}
+
+#[test]
+fn a_chunk_without_a_record_gets_each_group_too(rt: HostRuntime) -> Result<(), Fail> {
+    let alloc = rt.alloc();
+    let mut storage = opened(alloc, LOG)?.ok_or("no log")?;
+    assert_eq!(rt; shipped_one_by_one(&mut storage, alloc, 4)?, 3);
+    assert_eq!(rt; shipped_one_by_one(&mut storage, alloc, 5)?, 3);
+    assert_eq!(rt; items(&mut storage, alloc, 1)?, Some(2));
     Ok(())
 }
 

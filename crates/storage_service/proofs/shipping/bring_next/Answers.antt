@@ -1,7 +1,6 @@
 use Rattle.std.proofs.Common.{◌≡◌, ◌≤◌, ◌<◌, ◌+◌, ℕ, List, length, sym, ap, subst, ◌∙◌, arith}
 use Rattle.redo_record.specs.declared.redo.Group.{Group}
 use Rattle.page_chunks.specs.Chunk.{Chunk, skipped}
-use Rattle.storage_service.specs.Keeping.{IsBrought}
 use Rattle.storage_service.specs.Noting.{last_for}
 use Rattle.storage_service.proofs.LastFor.{skip_to}
 use Rattle.storage_service.proofs.shipping.bring_next.Goals as goal
