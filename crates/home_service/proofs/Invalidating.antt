@@ -25,7 +25,7 @@ pub record IsAt (q : ℕ) (pages : List ℕ) : Type 0 where
   pub within : place < length pages
   pub page : get_or pages place 0 ≡ q
 
-place_of : (q : ℕ) (pages : List ℕ) → is_among q pages ≡ true → IsAt q pages
+pub place_of : (q : ℕ) (pages : List ℕ) → is_among q pages ≡ true → IsAt q pages
 place_of q [] h = absurd cc
 place_of q (p ∷ pages) h = by (λ k. place_of q pages k) (nat_eq q p) refl h
   where

@@ -5,3 +5,4 @@ pub mod Framing
 pub mod Moving
 pub mod Registering
 pub mod Invalidating
+pub mod DuePages

@@ -2,6 +2,7 @@
 //! server, which handles each call at most once.
 #![tactic(auto)]
 
+mod expecting;
 mod laws;
 mod reaching;
 mod replying;

@@ -14,6 +14,7 @@ ghost use Rattle.rmem_calls.specs.Seating.{AreSeated};
 ghost use Rattle.home_service.specs.HomeSide.{side_of};
 ghost use Rattle.home_service.specs.Serving.{Served, HandlesRegister, HandlesUnregister, HandlesInvalidate, OnlyHome, fenced_to, renewed};
 
+use crate::expecting::{both, expect, take_out};
 use crate::reaching::reach;
 use crate::replying::same_reply;
 use home_tables::{Access, Home};
@@ -34,6 +35,8 @@ pub struct HomeService {
     server: Server,
     home: Home,
     slabs: Slabs,
+    /// The nodes at which a page may be due. No page is due at another one.
+    expected: NodeSet,
 }
 
 impl Model for HomeService {
@@ -45,7 +48,7 @@ impl Model for HomeService {
 
     ghost view = { λ s. record { server = s.server; home = s.home; slabs = s.slabs } };
 
-    ghost invariant = { λ s. IsKept (server_of s.server) s.home s.slabs };
+    ghost invariant = { λ s. IsKept (server_of s.server) s.home s.slabs s.expected };
 }
 
 impl HomeService {
@@ -69,6 +72,7 @@ impl HomeService {
             server: Server::new(Epoch::new(1)),
             home,
             slabs,
+            expected: NodeSet::new(),
         })
     }
 
@@ -158,6 +162,7 @@ impl HomeService {
             (side_of self.old) r (side_of self.new) }
     {
         let reply = rmem_calls::invalidate(&mut self.home, token.node, pages, clear);
+        expect(&mut self.expected, &reply, clear);
         self.server.keep(*token, call, same_reply(&reply));
         Some(reply)
     }
@@ -222,8 +227,18 @@ impl HomeService {
         rmem_calls::clean(&mut self.home, page, lsn)
     }
 
+    /// The pair that the next turn would find: the first one of a page and a node that is up, by page and
+    /// then node, of which the page is due at the node. None exactly where there is none.
+    pub fn first_due(&self, up: &NodeSet) -> Option<(PageId, NodeId)>
+        ensures { IsFirst (due_among (side_of self.now).home up.now) result }
+    {
+        let asked = both(up, &self.expected);
+        self.home.first_due(&asked)
+    }
+
     /// One turn of the home: the first pair of a page and a node that is up, by page and then node, is
-    /// due no longer. None exactly where there is none.
+    /// due no longer. None exactly where there is none. Where a turn has told so
+    /// already, no page is asked again.
     pub fn turn(&mut self, up: &NodeSet) -> Option<(PageId, NodeId)>
         ensures first { IsFirst (due_among (side_of self.old).home up.now) result }
         ensures struck { IfSome result (λ pair. ChangesAt (side_of self.old).home (side_of self.new).home
@@ -231,7 +246,12 @@ impl HomeService {
         ensures same { IsNone result → self.new ≡ self.old }
         ensures rest { OnlyHome (side_of self.old) (side_of self.new) }
     {
-        rmem_calls::home_turn(&mut self.home, up)
+        let asked = both(up, &self.expected);
+        let Some(pair) = rmem_calls::home_turn(&mut self.home, &asked) else {
+            take_out(&mut self.expected, &asked);
+            return None;
+        };
+        Some(pair)
     }
 
     /// Reads what stands at the address. Down exactly where its slab is down or there is none; else
