@@ -1,9 +1,9 @@
 -- The nodes at which a page may be due.
-use Rattle.std.proofs.Common.{◌≡◌, ◌≤◌, ◌<◌, ◌+◌, ◌⊎◌, inl, inr, ℕ, zero, suc, Bool, true, false, cond, not, ◌&&◌, ◌||◌, nat_eq, nat_lt, eqb-true, List, [], ◌∷◌, ◌++◌, length, get_or, Option, Some, None, IfSome, IsNone, refl, sym, ap, subst, ◌∙◌, arith}
+use Rattle.std.proofs.Common.{◌≡◌, ◌≤◌, ◌<◌, ◌+◌, inl, inr, ℕ, suc, Bool, true, false, cond, not, ◌&&◌, ◌||◌, nat_eq, nat_lt, eqb-true, List, [], ◌∷◌, ◌++◌, length, get_or, Option, Some, None, IfSome, IsNone, refl, sym, ap, subst, ◌∙◌, arith}
 use Rattle.std.proofs.lemmas.Bool.{true≢false, ltb-true, ltb-false}
 use Rattle.std.proofs.lemmas.List.{get_or_read}
 use Rattle.home_model.specs.Numbered.{put, nobody}
-use Rattle.home_model.specs.Entry.{Entry as HomeEntry, no_entry, registered, address_or, invalidated, due_beside, struck}
+use Rattle.home_model.specs.Entry.{Entry as HomeEntry, no_entry, registered, address_or, invalidated, struck}
 use Rattle.page_latches.specs.Set.{has}
 use Rattle.page_latches.specs.declared.latch.Mode.{Mode}
 use Rattle.page_latches.specs.declared.latch.Mode.TheVariants.{S, X}
@@ -18,12 +18,12 @@ use Rattle.home_tables.specs.Pairs.{IsFirst}
 use Rattle.home_tables.specs.Trying.{Tries}
 use Rattle.message_network.specs.declared.calls.Reply.{Reply}
 use Rattle.message_network.specs.declared.calls.Reply.TheVariants.{Registered, PoolFull, Unregistered, Started, Done, Appended, Got, Fenced}
-use Rattle.rmem_calls.specs.Registering.{Joins, TakesFree, TakesGiven, RegisterAnswers}
+use Rattle.rmem_calls.specs.Registering.{RegisterAnswers}
 use Rattle.rmem_calls.specs.Invalidating.{invalidated_all, is_among, due_pairs, InvalidateAnswers}
 use Rattle.rmem_calls.proofs.EachPage.{others_stay, none_due}
 use Rattle.home_service.specs.Joining.{is_done}
 use Rattle.home_service.specs.Keeping.{Includes, Expects}
-use Rattle.home_service.proofs.Invalidating.{IsAt, place_of}
+use Rattle.home_service.proofs.Invalidating.{place_of}
 
 -- ---- sets of nodes
 

@@ -1,6 +1,5 @@
-use Rattle.std.proofs.Common.{◌≡◌, ◌+◌, ◌++◌, ◌&&◌, ◌||◌, ℕ, Bool, true, cond, not, List, [], ◌∷◌, take, sym, ap, ◌∙◌}
+use Rattle.std.proofs.Common.{◌≡◌, ◌+◌, ◌++◌, ◌||◌, ℕ, Bool, List, [], ◌∷◌, take, sym, ap, ◌∙◌}
 use Rattle.std.proofs.lemmas.List.{take_more}
-use Rattle.home_model.specs.Numbered.{put}
 use Rattle.page_latches.specs.Set.{has}
 use Rattle.home_service.proofs.DuePages.{joined_more}
 use Rattle.home_service.proofs.expecting.join.Goals as goal

@@ -1,6 +1,5 @@
-use Rattle.std.proofs.Common.{◌≡◌, ◌+◌, ◌++◌, ◌&&◌, ◌||◌, ℕ, Bool, true, cond, not, List, [], ◌∷◌, take, sym, ap, ◌∙◌}
+use Rattle.std.proofs.Common.{◌≡◌, ◌+◌, ◌++◌, ◌&&◌, ℕ, Bool, not, List, [], ◌∷◌, take, sym, ap, ◌∙◌}
 use Rattle.std.proofs.lemmas.List.{take_more}
-use Rattle.home_model.specs.Numbered.{put}
 use Rattle.page_latches.specs.Set.{has}
 use Rattle.home_service.proofs.DuePages.{taken_more}
 use Rattle.home_service.proofs.expecting.take_out.Goals as goal
