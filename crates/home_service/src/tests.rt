@@ -104,8 +104,10 @@ fn who_has_a_fresh_copy_is_due(rt: HostRuntime) -> Result<(), Fail> {
     let clear = [fresh];
     let due = home.invalidate(&token(0), CallNo::new(2), &pages, &clear);
     assert!(rt; matches!(due, Some(Reply::Started { due: 1 })));
+    assert!(rt; home.turn(&NodeSet::new()).is_none(), "nobody is up");
+    assert!(rt; home.first_due(&up).is_some());
     let struck = home.turn(&up).ok_or("nobody is due")?;
     assert_eq!(rt; struck.0, page);
-    assert!(rt; home.turn(&up).is_none());
+    assert!(rt; home.turn(&up).is_none() && home.first_due(&up).is_none());
     Ok(())
 }
