@@ -8,21 +8,21 @@ use Rattle.coherent_pool.specs.Node.{node_at, Others}
 use Rattle.coherent_pool.specs.Joined.{SeesNode, NodeChanges}
 
 -- a choice by a test that holds, or does not
-chosen : {A : Type 0} (b : Bool) (x y : A) → b ≡ true → (if b then x else y) ≡ x
+pub chosen : {A : Type 0} (b : Bool) (x y : A) → b ≡ true → (if b then x else y) ≡ x
 chosen true x y h = refl
 chosen false x y h = absurd (cc)
 
-unchosen : {A : Type 0} (b : Bool) (x y : A) → b ≡ false → (if b then x else y) ≡ y
+pub unchosen : {A : Type 0} (b : Bool) (x y : A) → b ≡ false → (if b then x else y) ≡ y
 unchosen false x y h = refl
 unchosen true x y h = absurd (cc)
 
-itself : (n : ℕ) → nat_eq n n ≡ true
+pub itself : (n : ℕ) → nat_eq n n ≡ true
 itself n = grind arith
 
-apart : (m n : ℕ) → m ≢ n → nat_eq m n ≡ false
+pub apart : (m n : ℕ) → m ≢ n → nat_eq m n ≡ false
 apart m n h = grind arith
 
-unequal : (m n : ℕ) → nat_eq m n ≡ false → m ≢ n
+pub unequal : (m n : ℕ) → nat_eq m n ≡ false → m ≢ n
 unequal m n h = grind (arith, h)
 
 own_at : (n p : ℕ) (N M : PoolNode) (calls after : ℕ → Call) (pages : ℕ → Page) (X : Node) → ((q : ℕ) → q ≢ p → after q ≡ calls q)

@@ -11,3 +11,7 @@ pub mod NextAct
 pub mod WhatIsWanted
 pub mod Moving
 pub mod Joining
+pub mod Entries
+pub mod Images
+pub mod PlanPages
+pub mod PlanMoving

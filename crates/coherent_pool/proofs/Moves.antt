@@ -16,11 +16,11 @@ use Rattle.fetch_steps.specs.declared.place.Place.TheVariants.{LatchS, Look, Rea
 use Rattle.coherent_pool.specs.declared.known.Known.{Known}
 use Rattle.coherent_pool.specs.declared.works.FetchWork.{FetchWork}
 use Rattle.coherent_pool.specs.declared.works.Stage.{Stage}
-use Rattle.coherent_pool.specs.declared.works.Stage.TheVariants.{Fetching, Releasing}
+use Rattle.coherent_pool.specs.declared.works.Stage.TheVariants.{Fetching, Releasing, Latching, Freeing}
 use Rattle.coherent_pool.specs.Node.{PageState, node_of, step_in}
 use Rattle.coherent_pool.specs.Keeping.{Agrees, PinsAgree, pins_of, WorkAgrees, StageAgrees}
 use Rattle.coherent_pool.specs.Hearing.{heard, looks, reads_slot, writes_slot, cleans_slot, meets_slab}
-use Rattle.coherent_pool.specs.Changing.{shared, told_at, seen_at, read_at, lost_at, released_at}
+use Rattle.coherent_pool.specs.Changing.{shared, excluded, told_at, seen_at, read_at, lost_at, released_at}
 
 pub never : false ≡ true → ⊥
 never h = cc
@@ -118,12 +118,14 @@ share_keeps k leaving f writer _ place image copy bit p h s = absurd (never s)
 
 -- ---------------- X was granted
 
-pub exclude_moves : (v : Image) → IsMove (λ b. told_at (Tried Granted)) (Tried Granted) v wants_x
+pub exclude_moves : (v : Image) → IsMove (λ b. excluded) (Tried Granted) v wants_x
+exclude_moves v r n up k leaving f call writer Latching place image copy bit e q h s = refl
 exclude_moves v r n up k leaving f call writer Fetching LatchX image copy bit e q h s = refl
 exclude_moves v r n up k leaving f call writer Fetching _ image copy bit e q h s = absurd (never s)
 exclude_moves v r n up k leaving f call writer _ place image copy bit e q h s = absurd (never s)
 
-pub exclude_keeps : IsKept (λ b. told_at (Tried Granted)) wants_x
+pub exclude_keeps : IsKept (λ b. excluded) wants_x
+exclude_keeps k leaving f writer Latching place image copy bit p h s = record { pins = p; work = (refl, h) }
 exclude_keeps k leaving f writer Fetching LatchX image copy bit p h s = record { pins = p; work = (refl, h) }
 exclude_keeps k leaving f writer Fetching _ image copy bit p h s = absurd (never s)
 exclude_keeps k leaving f writer _ place image copy bit p h s = absurd (never s)
@@ -217,6 +219,9 @@ release_moves v r n up k leaving f call writer Fetching ReleaseEnd image copy bi
 release_moves v r n up k leaving f call writer Releasing place (Some w) copy bit e q h s = absurd (nothing_given w h)
 release_moves v r n up k leaving f call writer Releasing place None None bit e q h s = rw q refl
 release_moves v r n up k leaving f call writer Releasing place None (Some c) bit e q h s = rw q refl
+release_moves v r n up k leaving f call writer Freeing place (Some w) copy bit e q h s = absurd (nothing_given w h.0)
+release_moves v r n up k leaving f call writer Freeing place None None bit e q h s = refl
+release_moves v r n up k leaving f call writer Freeing place None (Some c) bit e q h s = refl
 release_moves v r n up k leaving f call writer Fetching _ image copy bit e q h s = absurd (never s)
 release_moves v r n up k leaving f call writer _ place image copy bit e q h s = absurd (never s)
 
@@ -233,6 +238,9 @@ release_keeps k leaving f writer Fetching ReleaseEnd image copy bit p h s = absu
 release_keeps k leaving f writer Releasing place (Some w) copy bit p h s = absurd (nothing_given w h)
 release_keeps k leaving f writer Releasing place None None bit p h s = record { pins = tt; work = tt }
 release_keeps k leaving f writer Releasing place None (Some c) bit p h s = record { pins = ap (λ (m : ℕ). m - 1) p; work = tt }
+release_keeps k leaving f writer Freeing place (Some w) copy bit p h s = absurd (nothing_given w h.0)
+release_keeps k leaving f writer Freeing place None None bit p h s = record { pins = tt; work = tt }
+release_keeps k leaving f writer Freeing place None (Some c) bit p h s = record { pins = ap (λ (m : ℕ). m - 1) p; work = tt }
 release_keeps k leaving f writer Fetching _ image copy bit p h s = absurd (never s)
 release_keeps k leaving f writer _ place image copy bit p h s = absurd (never s)
 

@@ -7,7 +7,7 @@ use Rattle.fetch_steps.specs.declared.place.Place.TheVariants.{Write, Clean}
 use Rattle.coherent_pool.specs.declared.works.FetchWork.{FetchWork}
 use Rattle.local_cache.specs.declared.cache.Cached.{Cached}
 use Rattle.coherent_pool.specs.declared.works.Stage.{Stage}
-use Rattle.coherent_pool.specs.declared.works.Stage.TheVariants.{Fetching, Held, Releasing, Over}
+use Rattle.coherent_pool.specs.declared.works.Stage.TheVariants.{Fetching, Held, Releasing, Over, Latching, Invalidating, Installing, Writing, Cleaning, Entering, Freeing}
 use Rattle.coherent_pool.specs.Acting.{HasOwnImage}
 use Rattle.coherent_pool.specs.Works.{work_at}
 use Rattle.coherent_pool.specs.Keeping.{ImageAgrees, StageAgrees, WorkAgrees}
@@ -33,3 +33,10 @@ has_own_image writer copy bit w h stage = by w.stage stage h.1
     by Held e g = absurd (cc)
     by Releasing e g = absurd (cc)
     by Over e g = absurd (cc)
+    by Latching e g = absurd (cc)
+    by Invalidating e g = absurd (cc)
+    by Installing e g = absurd (cc)
+    by Writing e g = absurd (cc)
+    by Cleaning e g = absurd (cc)
+    by Entering e g = absurd (cc)
+    by Freeing e g = absurd (cc)

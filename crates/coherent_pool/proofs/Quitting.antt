@@ -17,7 +17,7 @@ use Rattle.fetch_steps.specs.declared.place.Place.TheVariants.{Register, LatchS,
 use Rattle.coherent_pool.specs.declared.known.Known.{Known}
 use Rattle.coherent_pool.specs.declared.works.FetchWork.{FetchWork}
 use Rattle.coherent_pool.specs.declared.works.Stage.{Stage}
-use Rattle.coherent_pool.specs.declared.works.Stage.TheVariants.{Fetching, Held, Releasing, Over}
+use Rattle.coherent_pool.specs.declared.works.Stage.TheVariants.{Fetching, Held, Releasing, Over, Latching, Invalidating, Installing, Writing, Cleaning, Entering, Freeing}
 use Rattle.coherent_pool.specs.Node.{PageState, node_of, node_at, step_in, step_at as stage_step, image_of, copy_in, holds_in, Changes}
 use Rattle.coherent_pool.specs.Keeping.{Agrees, PinsAgree, pins_of, WorkAgrees, StageAgrees}
 use Rattle.coherent_pool.specs.declared.node.PoolNode.{PoolNode}
@@ -99,6 +99,12 @@ quit_moves up k leaving f image bit call Fetching RwLookBack writer unheard fals
 quit_moves up k leaving f image bit call Fetching RwLookBack writer unheard false (Some c) q h s = rw q refl
 quit_moves up k leaving f image bit call Fetching RwEnd writer unheard true copy q h s = rw q refl
 quit_moves up k leaving f image bit call Fetching RwEnd writer unheard false copy q h s = rw q refl
+quit_moves up k leaving f image bit call Latching place writer unheard true copy q h s = rw q refl
+quit_moves up k leaving f image bit call Latching place writer unheard false copy q h s = rw q refl
+quit_moves up k leaving f image bit call Invalidating place writer unheard true copy q h s = rw q refl
+quit_moves up k leaving f image bit call Invalidating place writer unheard false copy q h s = rw q refl
+quit_moves up k leaving f image bit call Installing place writer unheard true copy q h s = rw q refl
+quit_moves up k leaving f image bit call Installing place writer unheard false copy q h s = rw q refl
 quit_moves up k leaving f image bit call Fetching _ writer unheard waits copy q h s = absurd (never s)
 quit_moves up k leaving f image bit call _ place writer unheard waits copy q h s = absurd (never s)
 
@@ -157,6 +163,12 @@ quit_keeps k leaving f image bit Fetching RwLookBack writer unheard false None p
 quit_keeps k leaving f image bit Fetching RwLookBack writer unheard false (Some c) p h s = record { pins = ap (λ (m : ℕ). m - 1) p; work = tt }
 quit_keeps k leaving f image bit Fetching RwEnd writer unheard true copy p h s = record { pins = p; work = (refl, refl) }
 quit_keeps k leaving f image bit Fetching RwEnd writer unheard false copy p h s = record { pins = p; work = (refl, refl) }
+quit_keeps k leaving f image bit Latching place writer unheard true copy p h s = record { pins = p; work = (refl, refl) }
+quit_keeps k leaving f image bit Latching place writer unheard false copy p h s = record { pins = p; work = (refl, refl) }
+quit_keeps k leaving f image bit Invalidating place writer unheard true copy p h s = record { pins = p; work = (refl, refl) }
+quit_keeps k leaving f image bit Invalidating place writer unheard false copy p h s = record { pins = p; work = (refl, refl) }
+quit_keeps k leaving f image bit Installing place writer unheard true copy p h s = record { pins = p; work = (refl, refl) }
+quit_keeps k leaving f image bit Installing place writer unheard false copy p h s = record { pins = p; work = (refl, refl) }
 quit_keeps k leaving f image bit Fetching _ writer unheard waits copy p h s = absurd (never s)
 quit_keeps k leaving f image bit _ place writer unheard waits copy p h s = absurd (never s)
 
@@ -239,6 +251,13 @@ unheard_step u Fetching f v waits = refl
 unheard_step u Held f v waits = refl
 unheard_step u Releasing f v waits = refl
 unheard_step u Over f v waits = refl
+unheard_step u Latching f v waits = refl
+unheard_step u Invalidating f v waits = refl
+unheard_step u Installing f v waits = refl
+unheard_step u Writing f v waits = refl
+unheard_step u Cleaning f v waits = refl
+unheard_step u Entering f v waits = refl
+unheard_step u Freeing f v waits = refl
 
 abbrev at_step : Bool → PageState → FetchWork → Call → Step → Node
 at_step up S w call step = let T : PageState = record S { work = Some w } in record (node_of up T call) { step = step }
@@ -262,12 +281,26 @@ busy_stage holders Fetching copy bit f image h = h
 busy_stage holders Held copy bit f image h = h
 busy_stage holders Releasing copy bit f image h = h
 busy_stage holders Over copy bit f image h = h
+busy_stage holders Latching copy bit f image h = h
+busy_stage holders Invalidating copy bit f image h = h
+busy_stage holders Installing copy bit f image h = h
+busy_stage holders Writing copy bit f image h = h
+busy_stage holders Cleaning copy bit f image h = h
+busy_stage holders Entering copy bit f image h = h
+busy_stage holders Freeing copy bit f image h = h
 
 unheard_stage : (u : Bool) (stage : Stage) (copy : Option Cached) (bit : Bool) (f : Fetch) (image : Option Image) → StageAgrees stage copy bit f image → StageAgrees stage copy bit (record f { unheard = u }) image
 unheard_stage u Fetching copy bit f image h = h
 unheard_stage u Held copy bit f image h = h
 unheard_stage u Releasing copy bit f image h = h
 unheard_stage u Over copy bit f image h = h
+unheard_stage u Latching copy bit f image h = h
+unheard_stage u Invalidating copy bit f image h = h
+unheard_stage u Installing copy bit f image h = h
+unheard_stage u Writing copy bit f image h = h
+unheard_stage u Cleaning copy bit f image h = h
+unheard_stage u Entering copy bit f image h = h
+unheard_stage u Freeing copy bit f image h = h
 
 pub busy_keeps : (holders : Holders) (writer : Bool) (S : PageState) → Agrees writer S → Agrees writer (told_at (Tried (Busy holders)) S)
 busy_keeps holders writer S h = by S.work h.pins h.work
@@ -293,6 +326,13 @@ stale_stage Fetching copy bit f image h = (h.0, (λ x. stale_copy copy), h.2)
 stale_stage Held copy bit f image h = h
 stale_stage Releasing copy bit f image h = h
 stale_stage Over copy bit f image h = h
+stale_stage Latching copy bit f image h = h
+stale_stage Invalidating copy bit f image h = h
+stale_stage Installing copy bit f image h = h
+stale_stage Writing copy bit f image h = h
+stale_stage Cleaning copy bit f image h = h
+stale_stage Entering copy bit f image h = h
+stale_stage Freeing copy bit f image h = h
 
 pub stale_keeps : (writer : Bool) (S : PageState) → Agrees writer S → Agrees writer (with_bit S true)
 stale_keeps writer S h = by S.work h.pins h.work

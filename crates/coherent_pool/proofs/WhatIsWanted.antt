@@ -11,11 +11,12 @@ use Rattle.fetch_steps.specs.declared.place.Place.TheVariants.{Register, LatchS,
 use Rattle.fetch_steps.specs.declared.acts.Action.{Action}
 use Rattle.coherent_pool.specs.declared.works.FetchWork.{FetchWork}
 use Rattle.coherent_pool.specs.declared.works.Stage.{Stage}
-use Rattle.coherent_pool.specs.declared.works.Stage.TheVariants.{Fetching, Held as AtHeld, Releasing, Over}
+use Rattle.coherent_pool.specs.declared.works.Stage.TheVariants.{Fetching, Held as AtHeld, Releasing, Over, Latching, Invalidating, Installing, Writing, Cleaning, Entering, Freeing}
 use Rattle.coherent_pool.specs.declared.wanting.Wants.{Wants}
 use Rattle.coherent_pool.specs.Standing.{kind_of, wants_at, wants_in, wants_staged, same_wants, takes_at}
 use Rattle.coherent_pool.specs.Wanting.{wants_of}
 use Rattle.coherent_pool.specs.Hearing.{looks, reads_slot, writes_slot, cleans_slot, takes_register, takes_image, takes_answer}
+use Rattle.coherent_pool.specs.Planning.{takes_done, done_call}
 use Rattle.coherent_pool.specs.Node.{step_in, step_at as stage_step, image_of}
 use Rattle.local_cache.specs.declared.cache.Cached.{Cached}
 use Rattle.coherent_pool.specs.Keeping.{suits, StageAgrees, WorkAgrees}
@@ -63,6 +64,13 @@ wants_stage Fetching f v = wants_step f.place f.lsn v
 wants_stage AtHeld f v = refl
 wants_stage Releasing f v = refl
 wants_stage Over f v = refl
+wants_stage Latching f v = refl
+wants_stage Invalidating f v = refl
+wants_stage Installing f v = refl
+wants_stage Writing f v = refl
+wants_stage Cleaning f v = refl
+wants_stage Entering f v = refl
+wants_stage Freeing f v = refl
 
 pub wants_work : (w : FetchWork) → wants_of (step_in (Some w) Call.Quiet) ≡ wants_in w
 wants_work w = wants_stage w.stage w.step (image_of w)
@@ -76,6 +84,7 @@ shares _ h = absurd (cc)
 
 pub excludes : (step : Step) → wants_of step ≡ Wants.Exclude → wants_x step ≡ true
 excludes Step.LatchX h = refl
+excludes Step.PlanLatch h = refl
 excludes _ h = absurd (cc)
 
 pub releases : (step : Step) → wants_of step ≡ Wants.Release → wants_release step ≡ true
@@ -84,6 +93,7 @@ releases Step.ReleaseDown h = refl
 releases Step.ReleaseEnd h = refl
 releases Step.RwBack h = refl
 releases (Step.RwEnd v) h = refl
+releases Step.PlanRelease h = refl
 releases _ h = absurd (cc)
 
 pub looking : (step : Step) → wants_of step ≡ Wants.Look → looks step ≡ true
@@ -104,6 +114,22 @@ writing _ h = absurd (cc)
 pub cleaning : (step : Step) → wants_of step ≡ Wants.Clean → cleans_slot step ≡ true
 cleaning (Step.Clean v) h = refl
 cleaning _ h = absurd (cc)
+
+pub installing : (step : Step) → wants_of step ≡ Wants.Install → step ≡ Step.PlanInstall
+installing Step.PlanInstall h = refl
+installing _ h = absurd (cc)
+
+pub writing_copy : (step : Step) → wants_of step ≡ Wants.WriteCopy → step ≡ Step.PlanWrite
+writing_copy Step.PlanWrite h = refl
+writing_copy _ h = absurd (cc)
+
+pub cleaning_copy : (step : Step) → wants_of step ≡ Wants.CleanCopy → step ≡ Step.PlanClean
+cleaning_copy Step.PlanClean h = refl
+cleaning_copy _ h = absurd (cc)
+
+pub entering : (step : Step) → wants_of step ≡ Wants.RegisterAgain → step ≡ Step.PlanRegister
+entering Step.PlanRegister h = refl
+entering _ h = absurd (cc)
 
 register_place : (place : Place) (lsn : ℕ) (v : Image) (writer : Bool) → suits writer place ≡ true → takes_register (step_at place lsn v true) ≡ same_wants (wants_at place) Wants.Register
 register_place Register lsn v writer h = refl
@@ -185,6 +211,13 @@ register_work call writer copy bit w q h = by w.stage h.1
     by AtHeld g = refl
     by Releasing g = ap (λ (b : Bool). takes_register (if b then Step.GivenUp else Step.ReleaseEnd)) q
     by Over g = ap (λ (b : Bool). takes_register (if b then Step.GivenUp else Step.Idle)) q
+    by Latching g = refl
+    by Invalidating g = refl
+    by Installing g = refl
+    by Writing g = refl
+    by Cleaning g = refl
+    by Entering g = refl
+    by Freeing g = refl
 
 pub image_work : (call : Call) (writer : Bool) (copy : Option Cached) (bit : Bool) (w : FetchWork) → is_of_work call ≡ true → WorkAgrees writer copy bit (Some w) → takes_image (step_in (Some w) call) ≡ takes_at w.stage w.step.place Wants.Get
 image_work call writer copy bit w q h = by w.stage h.1
@@ -194,6 +227,13 @@ image_work call writer copy bit w q h = by w.stage h.1
     by AtHeld g = refl
     by Releasing g = ap (λ (b : Bool). takes_image (if b then Step.GivenUp else Step.ReleaseEnd)) q
     by Over g = ap (λ (b : Bool). takes_image (if b then Step.GivenUp else Step.Idle)) q
+    by Latching g = refl
+    by Invalidating g = refl
+    by Installing g = refl
+    by Writing g = refl
+    by Cleaning g = refl
+    by Entering g = refl
+    by Freeing g = refl
 
 pub answer_work : (call : Call) (writer : Bool) (copy : Option Cached) (bit : Bool) (w : FetchWork) → is_of_work call ≡ true → WorkAgrees writer copy bit (Some w) → takes_answer (step_in (Some w) call) ≡ (takes_at w.stage w.step.place Wants.Register || takes_at w.stage w.step.place Wants.Get)
 answer_work call writer copy bit w q h = by w.stage h.1
@@ -203,3 +243,54 @@ answer_work call writer copy bit w q h = by w.stage h.1
     by AtHeld g = refl
     by Releasing g = ap (λ (b : Bool). takes_answer (if b then Step.GivenUp else Step.ReleaseEnd)) q
     by Over g = ap (λ (b : Bool). takes_answer (if b then Step.GivenUp else Step.Idle)) q
+    by Latching g = refl
+    by Invalidating g = refl
+    by Installing g = refl
+    by Writing g = refl
+    by Cleaning g = refl
+    by Entering g = refl
+    by Freeing g = refl
+
+done_place : (place : Place) (lsn : ℕ) (v : Image) (writer : Bool) → suits writer place ≡ true → takes_done (step_at place lsn v true) ≡ same_wants (wants_at place) Wants.Invalidate
+done_place Register lsn v writer h = refl
+done_place LatchS lsn v writer h = refl
+done_place Look lsn v writer h = refl
+done_place Read lsn v writer h = refl
+done_place ReleaseS lsn v writer h = refl
+done_place LatchX lsn v writer h = refl
+done_place LookAgain lsn v writer h = refl
+done_place BackToS lsn v writer h = refl
+done_place LookBack lsn v writer h = refl
+done_place Get lsn v writer h = refl
+done_place Write lsn v writer h = refl
+done_place Clean lsn v writer h = refl
+done_place LastS lsn v writer h = refl
+done_place Held lsn v writer h = refl
+done_place ReleaseDown lsn v writer h = refl
+done_place ReleaseEnd lsn v writer h = absurd (never h)
+done_place Done lsn v writer h = absurd (never h)
+done_place RwLook lsn v writer h = refl
+done_place RwRead lsn v writer h = refl
+done_place RwBack lsn v writer h = refl
+done_place RwLookBack lsn v writer h = refl
+done_place RwEnd lsn v writer h = refl
+
+pub done_work : (call : Call) (writer : Bool) (copy : Option Cached) (bit : Bool) (w : FetchWork) → is_of_work call ≡ true → WorkAgrees writer copy bit (Some w) → takes_done (step_in (Some w) call) ≡ takes_at w.stage w.step.place Wants.Invalidate
+done_work call writer copy bit w q h = by w.stage h.1
+  where
+    by : (s : Stage) → StageAgrees s copy bit w.step w.image → takes_done (stage_step s w.step (image_of w) (is_of_work call)) ≡ takes_at s w.step.place Wants.Invalidate
+    by Fetching g = ap (λ (b : Bool). takes_done (step_at w.step.place w.step.lsn (image_of w) b)) q ∙ done_place w.step.place w.step.lsn (image_of w) w.step.writer g.2
+    by AtHeld g = refl
+    by Releasing g = ap (λ (b : Bool). takes_done (if b then Step.GivenUp else Step.ReleaseEnd)) q
+    by Over g = ap (λ (b : Bool). takes_done (if b then Step.GivenUp else Step.Idle)) q
+    by Latching g = refl
+    by Invalidating g = refl
+    by Installing g = refl
+    by Writing g = refl
+    by Cleaning g = refl
+    by Entering g = refl
+    by Freeing g = refl
+
+pub is_done_call : (done : Bool) → is_of_work (done_call done) ≡ true
+is_done_call true = refl
+is_done_call false = refl

@@ -19,8 +19,8 @@ use Rattle.fetch_steps.specs.declared.acts.Told.TheVariants.{Answer, Latch as Tr
 use Rattle.page_latches.specs.declared.latch.Latch.TheVariants.{Granted}
 use Rattle.coherent_pool.specs.declared.known.Known.{Known}
 use Rattle.coherent_pool.specs.declared.works.FetchWork.{FetchWork}
-use Rattle.coherent_pool.specs.Works.{told_work, staged_work, loaded_work}
-use Rattle.coherent_pool.specs.declared.works.Stage.TheVariants.{Fetching, Held, Releasing, Over}
+use Rattle.coherent_pool.specs.Works.{told_work, staged_work, stepped_work, loaded_work}
+use Rattle.coherent_pool.specs.declared.works.Stage.TheVariants.{Fetching, Held, Releasing, Over, Latching, Invalidating, Installing, Writing, Cleaning, Entering, Freeing}
 use Rattle.coherent_pool.specs.Node.{PageState, address_in, holds_in}
 
 abbrev pub is_fetching : Stage → Bool
@@ -29,6 +29,7 @@ is_fetching stage = false
 
 abbrev pub is_releasing : Stage → Bool
 is_releasing Releasing = true
+is_releasing Freeing = true
 is_releasing stage = false
 
 abbrev pub is_over : Stage → Place → Bool
@@ -128,6 +129,18 @@ settled S = if has_ended S.work then ended S else S
 abbrev pub shared : PageState → PageState
 shared S = used (told_at (Tried Granted) (loaded S))
 
+-- X was granted: a page of a plan is to be invalidated then
+abbrev pub is_latching : Stage → Bool
+is_latching Latching = true
+is_latching stage = false
+
+abbrev pub latches : Option FetchWork → Bool
+latches None = false
+latches (Some w) = is_latching w.stage
+
+abbrev pub excluded : PageState → PageState
+excluded S = if latches S.work then with_work S (staged_work Invalidating S.work) else told_at (Tried Granted) S
+
 -- bit 0 was seen under S: the local bit is 0
 abbrev pub noted : Bool → PageState → PageState
 noted writer S = if (not writer && reads S.work) then with_bit S false else S
@@ -196,7 +209,7 @@ got_at image S = settled (given_image image S)
 
 -- a page that was looked at under S and not yet read has local bit 1
 abbrev pub spoilt : Bool → PageState → PageState
-spoilt writer S = if (reads S.work && not writer) then with_bit S true else S
+spoilt writer S = if ((fetches S.work && reads S.work) && not writer) then with_bit S true else S
 
 abbrev pub quit_stage : Option FetchWork → Stage
 quit_stage work = if holds_in work then Releasing else Over
@@ -209,6 +222,52 @@ quit_at writer S = let T : PageState = spoilt writer S in with_work T (quit_work
 
 abbrev pub gave_up : Bool → Bool → PageState → PageState
 gave_up waits writer S = if waits then quit_at writer S else settled (quit_at writer S)
+
+-- ---------------- a page of a plan
+
+abbrev pub plan_work : Bool → ℕ → Option Addr → FetchWork
+plan_work writer page address = record { step = begun page writer address; stage = Latching; image = None }
+
+abbrev pub planned_at : Bool → ℕ → PageState → PageState
+planned_at writer page S = let T : PageState = with_work S (Some (plan_work writer page S.known.addr)) in with_copy T (had T.copy)
+
+-- the home's answer to the invalidate
+abbrev pub is_invalidating : Stage → Bool
+is_invalidating Invalidating = true
+is_invalidating stage = false
+
+abbrev pub invalidates : Option FetchWork → Bool
+invalidates None = false
+invalidates (Some w) = is_invalidating w.stage
+
+abbrev pub done_at : Bool → PageState → PageState
+done_at done S = if (invalidates S.work && done) then with_work S (staged_work Installing S.work) else S
+
+abbrev pub invalidated_at : Bool → PageState → PageState
+invalidated_at done S = settled (done_at done S)
+
+-- the image becomes the copy, where there is one
+abbrev pub imaged : Image → Option Cached → Option Cached
+imaged image copy = option_map (λ (c : Cached). let x : Cached = record c { page = image } in x) copy
+
+abbrev pub installed_at : Image → PageState → PageState
+installed_at image S =
+    let T : PageState = with_bit (with_copy S (imaged image S.copy)) false in with_work T (staged_work Writing T.work)
+
+abbrev pub written_at : PageState → PageState
+written_at S = with_work S (staged_work Cleaning S.work)
+
+abbrev pub cleaned_at : PageState → PageState
+cleaned_at S = with_work S (staged_work Freeing S.work)
+
+-- the slot is lost; the page is registered again
+abbrev pub unslotted : ℕ → Bool → PageState → PageState
+unslotted page writer S =
+    let T : PageState = with_work S (stepped_work (begun page writer None) S.work) in with_work T (staged_work Entering T.work)
+
+abbrev pub entered_at : ℕ → Addr → Bool → PageState → PageState
+entered_at page a writer S =
+    let T : PageState = kept_page (with_work S (stepped_work (begun page writer (Some a)) S.work)) in with_work T (staged_work Writing T.work)
 
 -- ---------------- a copy goes, a page is parted with
 

@@ -1,5 +1,5 @@
 -- For the proofs: what holds of what a node keeps of each page.
-use Rattle.std.specs.Prelude.{◌≡◌, ℕ, Bool, true, false, Option, Some, None, not}
+use Rattle.std.specs.Prelude.{◌≡◌, ℕ, Bool, true, false, Option, Some, None, is_some, not}
 use Rattle.page_image.specs.Image.{Image}
 use Rattle.node_model.specs.Step.{Step.Look as LookStep}
 use Rattle.node_model.specs.Learning.{have}
@@ -9,7 +9,7 @@ use Rattle.fetch_steps.specs.declared.place.Place.{Place}
 use Rattle.fetch_steps.specs.declared.place.Place.TheVariants.{LatchS, Look, Read, ReleaseS, LatchX, LookAgain, BackToS, LookBack, Write, Clean, LastS, RwLook, RwRead, RwBack, RwLookBack, RwEnd, ReleaseEnd, Done}
 use Rattle.coherent_pool.specs.declared.works.FetchWork.{FetchWork}
 use Rattle.coherent_pool.specs.declared.works.Stage.{Stage}
-use Rattle.coherent_pool.specs.declared.works.Stage.TheVariants.{Fetching, Held, Releasing, Over}
+use Rattle.coherent_pool.specs.declared.works.Stage.TheVariants.{Fetching, Held, Releasing, Over, Latching, Invalidating, Installing, Writing, Cleaning, Entering, Freeing}
 use Rattle.coherent_pool.specs.declared.node.PoolNode.{PoolNode}
 use Rattle.coherent_pool.specs.Node.{PageState, state_at, copy_in}
 
@@ -62,6 +62,10 @@ suits writer ReleaseEnd = false
 suits writer Done = false
 suits writer place = true
 
+-- a page of a plan has a copy, and no image of storage
+abbrev pub HasOwnCopy : Option Cached → Option Image → Type 0
+HasOwnCopy copy image = (image ≡ None) × (is_some copy ≡ true)
+
 abbrev pub StageAgrees : Stage → Option Cached → Bool → Fetch → Option Image → Type 0
 StageAgrees Fetching copy bit f image =
     ImageAgrees f.place f.lsn image × (searches f.place ≡ true → have (copy_in copy) bit ≡ LookStep)
@@ -69,6 +73,13 @@ StageAgrees Fetching copy bit f image =
 StageAgrees Held copy bit f image = image ≡ None
 StageAgrees Releasing copy bit f image = image ≡ None
 StageAgrees Over copy bit f image = image ≡ None
+StageAgrees Latching copy bit f image = HasOwnCopy copy image
+StageAgrees Invalidating copy bit f image = HasOwnCopy copy image
+StageAgrees Installing copy bit f image = HasOwnCopy copy image
+StageAgrees Writing copy bit f image = HasOwnCopy copy image
+StageAgrees Cleaning copy bit f image = HasOwnCopy copy image
+StageAgrees Entering copy bit f image = HasOwnCopy copy image
+StageAgrees Freeing copy bit f image = HasOwnCopy copy image
 
 abbrev pub WorkAgrees : Bool → Option Cached → Bool → Option FetchWork → Type 0
 WorkAgrees writer copy bit None = Unit {0}

@@ -11,3 +11,6 @@ pub mod Wanting
 pub mod Calls
 pub mod Moved
 pub mod Joined
+pub mod Handling
+pub mod Planning
+pub mod PlanMoved

@@ -11,7 +11,7 @@ use Rattle.fetch_steps.specs.Fetch.{Fetch, step_at as place_step, number_of, may
 use Rattle.coherent_pool.specs.declared.known.Known.{Known}
 use Rattle.coherent_pool.specs.declared.works.FetchWork.{FetchWork}
 use Rattle.coherent_pool.specs.declared.works.Stage.{Stage}
-use Rattle.coherent_pool.specs.declared.works.Stage.TheVariants.{Fetching, Held, Releasing, Over}
+use Rattle.coherent_pool.specs.declared.works.Stage.TheVariants.{Fetching, Held, Releasing, Over, Latching, Invalidating, Installing, Writing, Cleaning, Entering, Freeing}
 use Rattle.coherent_pool.specs.declared.node.PoolNode.{PoolNode}
 use Rattle.coherent_pool.specs.Known.{known_at, is_leaving, nothing_known}
 use Rattle.coherent_pool.specs.Works.{work_at}
@@ -44,6 +44,13 @@ step_at Fetching f v waits = place_step f.place f.lsn v waits
 step_at Held f v waits = Step.Held
 step_at Releasing f v waits = if waits then Step.GivenUp else Step.ReleaseEnd
 step_at Over f v waits = if waits then Step.GivenUp else Step.Idle
+step_at Latching f v waits = Step.PlanLatch
+step_at Invalidating f v waits = Step.PlanInvalidate
+step_at Installing f v waits = Step.PlanInstall
+step_at Writing f v waits = Step.PlanWrite
+step_at Cleaning f v waits = Step.PlanClean
+step_at Entering f v waits = Step.PlanRegister
+step_at Freeing f v waits = Step.PlanRelease
 
 abbrev pub step_in : Option FetchWork → Call → Step
 step_in None call = Step.Idle
@@ -81,12 +88,20 @@ is_writer N = N.writer
 abbrev pub node_at : PoolNode → ℕ → Call → Node
 node_at N p call = node_of N.up (state_at N p) call
 
--- the node holds the latch of the page, or its last try was lost or unseen
+-- the node holds the latch of the page, or its last try was lost or unseen. Of a page of a plan it counts as held from the
+-- plan's begin on
 abbrev pub holds_at : Stage → Fetch → Bool
 holds_at Fetching f = may_hold f
 holds_at Held f = true
 holds_at Releasing f = true
 holds_at Over f = false
+holds_at Latching f = true
+holds_at Invalidating f = true
+holds_at Installing f = true
+holds_at Writing f = true
+holds_at Cleaning f = true
+holds_at Entering f = true
+holds_at Freeing f = true
 
 abbrev pub holds_in : Option FetchWork → Bool
 holds_in None = false

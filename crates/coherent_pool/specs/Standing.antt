@@ -8,7 +8,7 @@ use Rattle.page_latches.specs.declared.latch.Mode.TheVariants.{S, X}
 use Rattle.coherent_pool.specs.declared.wanting.Wants.{Wants}
 use Rattle.coherent_pool.specs.declared.works.FetchWork.{FetchWork}
 use Rattle.coherent_pool.specs.declared.works.Stage.{Stage}
-use Rattle.coherent_pool.specs.declared.works.Stage.TheVariants.{Fetching, Held as AtHeld, Releasing}
+use Rattle.coherent_pool.specs.declared.works.Stage.TheVariants.{Fetching, Held as AtHeld, Releasing, Over, Latching, Invalidating, Installing, Writing, Cleaning, Entering, Freeing}
 
 abbrev pub is_register : Place → Bool
 is_register Register = true
@@ -76,6 +76,13 @@ wants_at RwEnd = Wants.Release
 abbrev pub wants_staged : Stage → Place → Wants
 wants_staged Fetching place = wants_at place
 wants_staged Releasing place = Wants.Release
+wants_staged Latching place = Wants.Exclude
+wants_staged Invalidating place = Wants.Invalidate
+wants_staged Installing place = Wants.Install
+wants_staged Writing place = Wants.WriteCopy
+wants_staged Cleaning place = Wants.CleanCopy
+wants_staged Entering place = Wants.RegisterAgain
+wants_staged Freeing place = Wants.Release
 wants_staged stage place = Wants.Nothing
 
 abbrev pub wants_in : FetchWork → Wants
@@ -92,6 +99,11 @@ same_wants Wants.Read Wants.Read = true
 same_wants Wants.Get Wants.Get = true
 same_wants Wants.Write Wants.Write = true
 same_wants Wants.Clean Wants.Clean = true
+same_wants Wants.Invalidate Wants.Invalidate = true
+same_wants Wants.Install Wants.Install = true
+same_wants Wants.WriteCopy Wants.WriteCopy = true
+same_wants Wants.CleanCopy Wants.CleanCopy = true
+same_wants Wants.RegisterAgain Wants.RegisterAgain = true
 same_wants Wants.Nothing Wants.Nothing = true
 same_wants a b = false
 
@@ -99,4 +111,6 @@ same_wants a b = false
 abbrev pub takes_at : Stage → Place → Wants → Bool
 takes_at Fetching place wanted = same_wants (wants_at place) wanted
 takes_at AtHeld place wanted = false
-takes_at stage place wanted = true
+takes_at Releasing place wanted = true
+takes_at Over place wanted = true
+takes_at stage place wanted = same_wants (wants_staged stage place) wanted

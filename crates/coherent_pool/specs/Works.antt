@@ -3,6 +3,7 @@ use Rattle.std.specs.Prelude.{◌≡◌, ◌≢◌, ◌<◌, ℕ, Bool, Option, 
 use Rattle.std.specs.List.{find}
 use Rattle.page_image.specs.Image.{Image}
 use Rattle.fetch_steps.specs.declared.acts.Told.{Told}
+use Rattle.fetch_steps.specs.Fetch.{Fetch}
 use Rattle.fetch_steps.specs.Places.{after}
 use Rattle.coherent_pool.specs.declared.works.FetchWork.{FetchWork}
 use Rattle.coherent_pool.specs.declared.works.Stage.{Stage}
@@ -36,6 +37,13 @@ at_stage stage w = record w { stage = stage }
 
 abbrev pub staged_work : Stage → Option FetchWork → Option FetchWork
 staged_work stage work = option_map (at_stage stage) work
+
+-- the fetch stands there
+abbrev pub at_fetch : Fetch → FetchWork → FetchWork
+at_fetch step w = record w { step = step }
+
+abbrev pub stepped_work : Fetch → Option FetchWork → Option FetchWork
+stepped_work step work = option_map (at_fetch step) work
 
 -- the fetch has that image, or none
 abbrev pub having : Option Image → FetchWork → FetchWork

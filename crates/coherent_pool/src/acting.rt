@@ -6,6 +6,7 @@ ghost use Rattle.coherent_pool.specs.Acting.{act_of_work, HasOwnImage};
 use crate::node::PoolNode;
 use crate::works::{FetchWork, Stage};
 use fetch_steps::Action;
+use page_latches::Mode;
 use rm_base::PageId;
 
 fn act_of(work: &FetchWork) -> Action
@@ -14,8 +15,10 @@ fn act_of(work: &FetchWork) -> Action
 {
     match work.stage {
         Stage::Fetching => work.step.next(),
-        Stage::Releasing => Action::Release(work.step.page()),
-        Stage::Held | Stage::Over => Action::Finished,
+        Stage::Releasing | Stage::Freeing => Action::Release(work.step.page()),
+        Stage::Latching => Action::Latch(work.step.page(), Mode::X),
+        Stage::Entering => Action::Register(work.step.page()),
+        _ => Action::Finished,
     }
 }
 
@@ -23,7 +26,8 @@ impl PoolNode {
     ghost use Rattle.coherent_pool.specs.Node.{address_at, step_at_page};
     ghost use Rattle.coherent_pool.specs.Keeping.{IsNode};
 
-    /// The act of the page's fetch that is next, after the answer to a call that is unanswered.
+    /// The act of the page's fetch that is next, or of a page of a plan where it is an act of that
+    /// page alone and not of its copy, after the answer to a call that is unanswered.
     pub fn next(&self, page: PageId) -> Action
         requires { IsNode self.now }
         ensures { result ≡ act_of page (address_at self.now page) (step_at_page self.now page) }

@@ -36,7 +36,7 @@ impl PoolNode {
     ghost use Rattle.coherent_pool.specs.Hearing.{Accepts, SameNode, takes_register, takes_image, takes_answer, is_refusal};
     ghost use Rattle.coherent_pool.specs.Changing.{told_at, fetches, kept_page, owned, registered_at, given_image, got_at, settled, with_bit};
 
-    fn fetches(&self, page: PageId) -> bool
+    pub(crate) fn fetches(&self, page: PageId) -> bool
         ensures { result ≡ fetches (state_at self.now page).work }
     {
         match self.works.get(page) {
@@ -45,7 +45,7 @@ impl PoolNode {
         }
     }
 
-    fn keep_page(&mut self, page: PageId)
+    pub(crate) fn keep_page(&mut self, page: PageId)
         ensures { Changes page (kept_page (state_at self.old page)) self.old self.new }
     {
         let known = self.table.known(page);

@@ -26,7 +26,7 @@ impl PoolNode {
     }
 
     /// One fetch more has the copy, if there is one.
-    fn pin(&mut self, page: PageId)
+    pub(crate) fn pin(&mut self, page: PageId)
         requires { pins_in (state_at self.old page).copy < 255 }
         ensures { Changes page (with_copy (state_at self.old page)
             (had (state_at self.old page).copy)) self.old self.new }
@@ -75,8 +75,8 @@ impl PoolNode {
         match self.works.get(page) {
             Some(work) => match work.stage {
                 Stage::Fetching => work.step.may_hold(),
-                Stage::Held | Stage::Releasing => true,
                 Stage::Over => false,
+                _ => true,
             },
             None => false,
         }
@@ -87,7 +87,7 @@ impl PoolNode {
         ensures { Changes page (spoilt (is_writer self.old) (state_at self.old page)) self.old
             self.new }
     {
-        if self.reads(page) && !self.writer {
+        if self.fetches(page) && self.reads(page) && !self.writer {
             self.set_bit(page, true);
         }
     }

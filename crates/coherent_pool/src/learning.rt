@@ -6,6 +6,7 @@ ghost use Rattle.fetch_steps.specs.declared.acts.Told.TheVariants.{Latch as Trie
 ghost use Rattle.page_latches.specs.declared.latch.Latch.TheVariants.{Granted};
 
 use crate::node::PoolNode;
+use crate::works::Stage;
 use fetch_steps::Told;
 use message_network::Seen;
 use page_image::Page;
@@ -18,7 +19,7 @@ impl PoolNode {
     ghost use Rattle.coherent_pool.specs.Node.{state_at, is_writer, Changes, Others, HasRoom, step_at_page};
     ghost use Rattle.coherent_pool.specs.Keeping.{IsNode};
     ghost use Rattle.coherent_pool.specs.Hearing.{Hears, looks, reads_slot, writes_slot, cleans_slot, meets_slab};
-    ghost use Rattle.coherent_pool.specs.Changing.{shared, seen_at, read_at, lost_at, told_at, released_at};
+    ghost use Rattle.coherent_pool.specs.Changing.{shared, excluded, seen_at, read_at, lost_at, told_at, released_at};
 
     fn share(&mut self, alloc: Global, page: PageId) -> Result<(), WantOfMemory>
         requires { HasRoom self.old page }
@@ -47,6 +48,17 @@ impl PoolNode {
         Ok(())
     }
 
+    /// A page of a plan is to be invalidated, once X was granted.
+    fn exclude(&mut self, page: PageId)
+        ensures { Changes page (excluded (state_at self.old page)) self.old self.new }
+    {
+        if self.latches(page) {
+            self.set_stage(page, Stage::Invalidating);
+        } else {
+            self.tell(page, &Told::Latch(Latch::Granted));
+        }
+    }
+
     /// X was granted.
     pub fn granted_x(&mut self, page: PageId)
         requires rules { IsNode self.old }
@@ -55,7 +67,7 @@ impl PoolNode {
         ensures others { Others page self.old self.new }
         ensures kept { IsNode self.new }
     {
-        self.tell(page, &Told::Latch(Latch::Granted));
+        self.exclude(page);
     }
 
     /// This was seen in the home's entry.

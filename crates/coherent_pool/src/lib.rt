@@ -12,6 +12,7 @@ mod learning;
 mod leaving;
 mod losing;
 mod node;
+mod planning;
 mod settling;
 mod standing;
 #[cfg(test)]
@@ -21,7 +22,7 @@ mod works;
 
 pub use calls::{HomeAsk, NodeCalls, PageAsk};
 pub use known::{AddressTable, Known};
-pub use laws::{hearing_laws, move_laws, node_change_laws};
+pub use laws::{hearing_laws, home_change_laws, move_laws, node_change_laws, plan_move_laws};
 pub use node::PoolNode;
 pub use wanting::Wants;
 pub use works::{FetchWork, Stage, Works};

@@ -207,7 +207,15 @@ impl PoolNode {
         }
     }
 
-    pub(crate) fn has_copy(&self, page: PageId) -> bool
+    /// Whether the node is the RW.
+    pub fn is_writer(&self) -> bool
+        ensures { result ≡ is_writer self.now }
+    {
+        self.writer
+    }
+
+    /// Whether the node has a copy of the page.
+    pub fn has_copy(&self, page: PageId) -> bool
         ensures { result ≡ is_some (state_at self.now page).copy }
     {
         self.cache.peek(page).is_some()

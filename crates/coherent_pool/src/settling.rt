@@ -11,7 +11,7 @@ use rm_base::PageId;
 
 impl PoolNode {
     ghost use Rattle.coherent_pool.specs.Node.{state_at, is_writer, Changes};
-    ghost use Rattle.coherent_pool.specs.Changing.{reads, registers, releases, has_ended, noted, bit_read, forgot, let_go, ended, settled, with_copy, freed, addressed, pins_in};
+    ghost use Rattle.coherent_pool.specs.Changing.{reads, registers, releases, latches, has_ended, noted, bit_read, forgot, let_go, ended, settled, with_copy, freed, addressed, pins_in};
 
     pub(crate) fn reads(&self, page: PageId) -> bool
         ensures { result ≡ reads (state_at self.now page).work }
@@ -35,7 +35,16 @@ impl PoolNode {
         ensures { result ≡ releases (state_at self.now page).work }
     {
         match self.works.get(page) {
-            Some(work) => work.stage == Stage::Releasing,
+            Some(work) => matches!(work.stage, Stage::Releasing | Stage::Freeing),
+            None => false,
+        }
+    }
+
+    pub(crate) fn latches(&self, page: PageId) -> bool
+        ensures { result ≡ latches (state_at self.now page).work }
+    {
+        match self.works.get(page) {
+            Some(work) => work.stage == Stage::Latching,
             None => false,
         }
     }
@@ -47,7 +56,7 @@ impl PoolNode {
             Some(work) => match work.stage {
                 Stage::Fetching => standing::is_done(&work.step),
                 Stage::Over => true,
-                Stage::Held | Stage::Releasing => false,
+                _ => false,
             },
             None => false,
         }

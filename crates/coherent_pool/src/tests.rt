@@ -60,6 +60,29 @@ fn answer(alloc: Global, node: &mut PoolNode, page: PageId) -> Result<(), Fail>
         node.registered(page, addr, true, Lsn::new(0));
     } else if node.takes_image(page) {
         node.got(page, image);
+    } else {
+        plan(alloc, node, page)?;
+    }
+    Ok(())
+}
+
+/// The node is told of the act of a page of a plan.
+#[tactic(auto, using(crate::proofs::WhatIsWanted::installing, crate::proofs::WhatIsWanted::writing_copy, crate::proofs::WhatIsWanted::cleaning_copy, crate::proofs::WhatIsWanted::entering))]
+fn plan(alloc: Global, node: &mut PoolNode, page: PageId) -> Result<(), Fail>
+    requires { IsNode node.old }
+    ensures { IsNode node.new }
+{
+    let addr = address()?;
+    match node.wants(page) {
+        Wants::Install => node.install(page, Page::blank(alloc, page)?),
+        Wants::WriteCopy => node.wrote_copy(page),
+        Wants::CleanCopy => node.cleaned_copy(page),
+        Wants::RegisterAgain => node.registered_again(page, addr),
+        _ => {
+            if node.takes_invalidate(page) {
+                node.invalidated(page, true);
+            }
+        }
     }
     Ok(())
 }
@@ -184,5 +207,31 @@ fn an_answer_is_taken_once(rt: HostRuntime) -> Result<(), Fail> {
     assert!(rt; calls.accept_home(&answer).is_some());
     assert!(rt; calls.accept_home(&answer).is_none());
     assert_eq!(rt; calls.home_ask(), None);
+    Ok(())
+}
+
+#[test]
+fn a_page_of_a_plan_goes_its_way(rt: HostRuntime) -> Result<(), Fail> {
+    let page = PageId::new(7).ok_or("page")?;
+    let mut node = node(rt.alloc(), true)?;
+    fetch(rt.alloc(), &mut node, page, false)?;
+    if node.is_busy(page) || !node.has_copy(page) || !node.is_writer() {
+        return Err("copy".into());
+    }
+    node.plan(page)?;
+    let wanted = way(rt.alloc(), &mut node, page, false)?;
+    assert_eq!(rt;
+        wanted.as_slice(),
+        [
+            Wants::Exclude,
+            Wants::Invalidate,
+            Wants::Install,
+            Wants::WriteCopy,
+            Wants::CleanCopy,
+            Wants::Release,
+            Wants::Nothing,
+        ]
+        .as_slice()
+    );
     Ok(())
 }

@@ -1,6 +1,6 @@
 //! What a node's fetch of a page asks for next, by its kind: the tests of what the node may be
 //! told.
-ghost use Rattle.std.specs.Prelude.{◌≡◌, ℕ, true, false};
+ghost use Rattle.std.specs.Prelude.{◌≡◌, ℕ, Bool, true, false};
 ghost use Rattle.page_image.specs.Image.{Image};
 ghost use Rattle.node_model.specs.Call.{Call, Call.ToldRegistered, Call.ToldImage};
 ghost use Rattle.coherent_pool.specs.Standing.{kind_of, wants_at, wants_in, takes_at};
@@ -13,7 +13,7 @@ use fetch_steps::{Action, FetchStep};
 use page_latches::Mode;
 use rm_base::PageId;
 
-/// What a fetch asks for next, by its kind.
+/// What a fetch, or a plan of the page, asks for next, by its kind.
 #[derive(Clone, Copy, Debug, PartialEq, Eq)]
 pub enum Wants {
     Register,
@@ -25,6 +25,16 @@ pub enum Wants {
     Get,
     Write,
     Clean,
+    /// The pages of a plan are to be invalidated.
+    Invalidate,
+    /// The plan's change is to be made in the copy.
+    Install,
+    /// The copy is to stand in the slot.
+    WriteCopy,
+    /// The home is to be told that the slot holds the copy.
+    CleanCopy,
+    /// The slot of a plan's page is lost: the page is to be registered again.
+    RegisterAgain,
     Nothing,
 }
 
@@ -57,7 +67,13 @@ fn wants_of(work: &FetchWork) -> Wants
 {
     match work.stage {
         Stage::Fetching => wants_next(&work.step),
-        Stage::Releasing => Wants::Release,
+        Stage::Latching => Wants::Exclude,
+        Stage::Invalidating => Wants::Invalidate,
+        Stage::Installing => Wants::Install,
+        Stage::Writing => Wants::WriteCopy,
+        Stage::Cleaning => Wants::CleanCopy,
+        Stage::Entering => Wants::RegisterAgain,
+        Stage::Releasing | Stage::Freeing => Wants::Release,
         Stage::Held | Stage::Over => Wants::Nothing,
     }
 }
@@ -70,12 +86,14 @@ fn takes_answer(work: &FetchWork, wanted: Wants) -> bool
         Stage::Fetching => wants_next(&work.step) == wanted,
         Stage::Releasing | Stage::Over => true,
         Stage::Held => false,
+        _ => wants_of(work) == wanted,
     }
 }
 
 impl PoolNode {
     ghost use Rattle.coherent_pool.specs.Node.{state_at, node_at, step_at_page};
     ghost use Rattle.coherent_pool.specs.Keeping.{IsNode};
+    ghost use Rattle.coherent_pool.specs.Planning.{takes_done, done_call};
     ghost use Rattle.coherent_pool.specs.Hearing.{takes_register, takes_image, takes_answer, is_refusal};
 
     /// What the page's fetch asks for next.
@@ -108,6 +126,18 @@ impl PoolNode {
     {
         match self.works.get(page) {
             Some(work) => takes_answer(work, Wants::Get),
+            None => false,
+        }
+    }
+
+    /// Whether an answer to an invalidate of the page would be taken.
+    pub fn takes_invalidate(&self, page: PageId) -> bool
+        requires { IsNode self.now }
+        ensures { (done : Bool) → result
+            ≡ takes_done (node_at self.now page (done_call done)).step }
+    {
+        match self.works.get(page) {
+            Some(work) => takes_answer(work, Wants::Invalidate),
             None => false,
         }
     }

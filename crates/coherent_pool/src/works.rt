@@ -1,7 +1,7 @@
 ghost use Rattle.std.specs.Prelude.{◌≡◌, [], None, Some, OnOk, OnErr};
 ghost use Rattle.std.specs.Option.{option_copied};
 ghost use Rattle.std.specs.List.{position};
-ghost use Rattle.coherent_pool.specs.Works.{is_of, work_at, told_work, staged_work, loaded_work, SetsWork};
+ghost use Rattle.coherent_pool.specs.Works.{is_of, work_at, told_work, staged_work, stepped_work, loaded_work, SetsWork};
 
 use fetch_steps::{FetchStep, Told};
 use page_image::Page;
@@ -9,7 +9,7 @@ use rm_base::{PageId, WantOfMemory};
 use std::alloc::Global;
 use std::marker::Model;
 
-/// How far a node's fetch of a page is.
+/// How far a node's fetch of a page is, or its plan with the page.
 #[derive(Clone, Copy, Debug, PartialEq, Eq)]
 pub enum Stage {
     /// As the fetch says.
@@ -20,6 +20,20 @@ pub enum Stage {
     Releasing,
     /// Given up, and no latch is held.
     Over,
+    /// The page is one of a plan, and is to be latched in X.
+    Latching,
+    /// X is held: the home is to answer that no other node has a fresh copy.
+    Invalidating,
+    /// It answered so: the plan's change is to be made in the copy.
+    Installing,
+    /// The copy is the latest image, and is to stand in the slot.
+    Writing,
+    /// The slot was written, and the home is to be told.
+    Cleaning,
+    /// The slot is lost: the page is to be registered again, and then written.
+    Entering,
+    /// The slot is clean: X is to be released.
+    Freeing,
 }
 
 /// A fetch of a node: where it stands, and the image that storage gave it, until the image is the
@@ -100,6 +114,16 @@ impl Works {
     {
         if let Some(at) = place_of(self.items.as_slice(), page) {
             self.items[at].stage = stage;
+        }
+    }
+
+    /// The fetch of the page stands there.
+    pub fn set_step(&mut self, page: PageId, step: FetchStep)
+        requires { step.page ≡ page }
+        ensures { SetsWork page (stepped_work step (work_at self.old page)) self.old self.new }
+    {
+        if let Some(at) = place_of(self.items.as_slice(), page) {
+            self.items[at].step = step;
         }
     }
 
