@@ -1,0 +1,9 @@
+pub mod Aims
+pub mod Backs
+pub mod Example
+pub mod Lifting
+pub mod Orders
+pub mod UndoStages
+pub mod Undoing
+pub mod WriteStages
+pub mod Writing
