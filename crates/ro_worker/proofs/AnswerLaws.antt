@@ -7,14 +7,12 @@ use Rattle.sql_exec.specs.Answer.{Answers, ComesFrom}
 use Rattle.sql_database.specs.declared.replies.SqlReply.{SqlReply}
 use Rattle.sql_database.specs.declared.replies.SqlReply.TheVariants as reply
 use Rattle.question_tree.specs.Questions.{Ask, tells, asks, stops, Gives}
-use Rattle.statement_reader.specs.declared.tables.Found.{Found}
-use Rattle.statement_reader.specs.Question.{question}
-use Rattle.statement_reader.specs.Spelling.{decoder}
+use Rattle.statement_reader.specs.declared.asking.Read.{Read}
+use Rattle.statement_reader.specs.Reads as statement
 use Rattle.statement_work.specs.declared.acts.Job.{Job}
 use Rattle.statement_work.specs.Works as works
 use Rattle.statement_work.specs.Works.{Input, Handed, Stamped, Made, Told, Replied, Rested, Again, Fits, uses}
 use Rattle.statement_work.specs.Replies.{Allows, IsReplyOver}
-use Rattle.ro_worker.specs.declared.asking.Read.{Read}
 use Rattle.ro_worker.specs.declared.kinds.StatementKind.{StatementKind}
 use Rattle.ro_worker.specs.declared.kinds.StatementKind.TheVariants as kind
 use Rattle.ro_worker.specs.Kinds.{kind_of}
@@ -35,11 +33,11 @@ found_replied e = cc
 
 -- a SELECT tells what it read
 select_tells : (snapshot own : Option ℕ) (st : Stmt) (xs : List Input) (r : SqlReply) → Gives Fits (at_stamp snapshot (reads st own)) xs (Replied r) → ⊥
-select_tells (Some n) own st xs r h = let g = latched_gives st None (question decoder (record { stamp = n; own = own }) st) xs (Replied r) h in found_replied g.1
+select_tells (Some n) own st xs r h = let g = latched_gives None (statement.reads (record { stamp = n; own = own }) st) xs (Replied r) h in found_replied g.1
 select_tells None own st [] r h = h
 select_tells None own st (Handed im ∷ xs) r h = h.0
 select_tells None own st (Made ∷ xs) r h = h.0
-select_tells None own st (Stamped n ∷ xs) r h = let g = latched_gives st None (question decoder (record { stamp = n; own = own }) st) xs (Replied r) h.1 in found_replied g.1
+select_tells None own st (Stamped n ∷ xs) r h = let g = latched_gives None (statement.reads (record { stamp = n; own = own }) st) xs (Replied r) h.1 in found_replied g.1
 
 abbrev IsSelecting : StatementKind → Type 0
 IsSelecting kind.Write = ⊥
@@ -64,10 +62,10 @@ never_replied kind.Begin s job xs r h = s
 never_replied kind.End s job xs r h = s
 
 pub selects_are_answered : SelectsAreAnswered
-selects_are_answered job xs r e (works.Found a, h, (found, (o, c, is))) =
+selects_are_answered job xs r e (works.Found a, h, (over, (o, c, is))) =
     let P : Stmt → Type 0 = λ st. ComesFrom (Answers a.found.schemas a.found.rows st) o in
-    let comes = subst P found.0 c in
-    (a.found, o, found.1, comes, select_changes_nothing job.statement a.found.schemas a.found.rows o e comes, is)
+    let comes = subst P over.statement c in
+    (o, (a.found, over.found, comes), select_changes_nothing job.statement a.found.schemas a.found.rows o e comes, is)
 selects_are_answered job xs r e (Replied s, h, same) = absurd (never_replied (kind_of job.statement) (select_kind job.statement e) job xs s h)
 selects_are_answered job xs r e (Rested, h, none) = absurd none
 selects_are_answered job xs r e (Again session, h, none) = absurd none

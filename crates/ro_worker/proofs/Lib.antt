@@ -1,6 +1,6 @@
 pub mod AnswerLaws
-pub mod AskingLaws
 pub mod OutcomeLaws
 pub mod ReplyLaws
+pub mod SelectLaws
 pub mod ServingLaws
 pub mod TurnLaws

@@ -2,24 +2,20 @@
 use Rattle.std.proofs.Common.{◌≡◌, ℕ, Bool, true, false, List, Option, Some, None, IsSome, refl, sym, ◌∙◌, ap, subst}
 use Rattle.std.specs.Prelude.{option_map}
 use Rattle.page_image.specs.Image.{Image}
-use Rattle.sql_statements.specs.declared.statements.Stmt.{Stmt}
 use Rattle.question_tree.specs.Questions.{Ask, tells, asks, stops, wanted, told, after}
 use Rattle.range_reader.specs.declared.fetch.Fetch.{Fetch}
 use Rattle.range_reader.specs.Finding.{Asked, page_of}
-use Rattle.statement_reader.specs.declared.tables.Found.{Found}
+use Rattle.statement_reader.specs.declared.asking.Read.{Read}
+use Rattle.statement_reader.specs.Kept.{Kept, asking_of}
 use Rattle.statement_reader.specs.Question.{Reading}
 use Rattle.statement_work.specs.Works as works
 use Rattle.statement_work.specs.Works.{Wish, Fetches, Releases, Stamps, Input, Handed, Stamped, Made, AskedFor, image_in}
 use Rattle.statement_work.specs.Latches.{is_child}
-use Rattle.ro_worker.specs.declared.asking.Read.{Read}
 use Rattle.ro_worker.specs.declared.latching.ReaderWish.{ReaderWish}
 use Rattle.ro_worker.specs.declared.latching.ReaderWish.TheVariants as wish
-use Rattle.ro_worker.specs.declared.serving.Serving.{Serving}
-use Rattle.ro_worker.specs.Asking.{Asking, asking_of}
-use Rattle.ro_worker.specs.Reads.{read_of}
 use Rattle.ro_worker.specs.Wishes.{reads_only, wish_of, first, wish_by, release, wish_at, wish_for, free_by, free_after}
 use Rattle.ro_worker.specs.Serving.{ReadWork, fetched, freed, latched}
-use Rattle.ro_worker.specs.States.{serving_of, IsBegun, TellsRead}
+use Rattle.ro_worker.specs.States.{serving_with, TellsRead}
 
 nothing : {A : Type 0} {a : A} → None ≡ Some a → ⊥
 nothing e = cc
@@ -27,12 +23,9 @@ nothing e = cc
 the_same : {A : Type 0} {a b : A} → Some a ≡ Some b → a ≡ b
 the_same e = cc
 
-abbrev left : Stmt → Option ℕ → Option ℕ → Reading Found → ReadWork
-left st free held m = freed free (latched st held m)
-
-pub begins : (a : Asking) → IsBegun a (record { asking = a; held = None; free = None })
-unfolding serving_of
-begins a = refl
+pub begins : (k : Kept) → serving_with None None (asking_of k) ≡ latched None (asking_of k)
+unfolding serving_with
+begins k = refl
 
 -- ---- what is wished for
 
@@ -45,75 +38,75 @@ wants_fetched true held q n = refl
 wants_fetched false None q n = refl
 wants_fetched false (Some p) q n = refl
 
-wants_at : (st : Stmt) (held : Option ℕ) (m : Reading Found) → wanted (latched st held m) ≡ option_map wish_of (wish_at held (wanted m))
+wants_at : (held : Option ℕ) (m : Reading Read) → wanted (latched held m) ≡ option_map wish_of (wish_at held (wanted m))
 unfolding latched
-wants_at st held (tells a) = wants_freed held _ refl
-wants_at st held (asks q k) = wants_fetched (is_child q) held q _
-wants_at st held stops = wants_freed held _ refl
+wants_at held (tells a) = wants_freed held _ refl
+wants_at held (asks q k) = wants_fetched (is_child q) held q _
+wants_at held stops = wants_freed held _ refl
 
-wants_for : (st : Stmt) (free held : Option ℕ) (m : Reading Found) → wanted (left st free held m) ≡ option_map wish_of (wish_for free held (wanted m))
-wants_for st None held m = wants_at st held m
-wants_for st (Some p) held m = refl
+wants_for : (free held : Option ℕ) (m : Reading Read) → wanted (serving_with free held m) ≡ option_map wish_of (wish_for free held (wanted m))
+unfolding serving_with
+wants_for None held m = wants_at held m
+wants_for (Some p) held m = refl
 
-pub wants : (s : Serving) (o : Option Fetch) (r : Option ReaderWish) → o ≡ wanted (asking_of s.asking) → r ≡ wish_for s.free s.held o
-    → option_map wish_of r ≡ wanted (serving_of s)
-unfolding serving_of
-wants s o r e f =
-    ap (λ (x : Option ReaderWish). option_map wish_of x) (f ∙ ap (wish_for s.free s.held) e) ∙ sym (wants_for s.asking.statement s.free s.held (asking_of s.asking))
+pub wants : (free held : Option ℕ) (k : Kept) (o : Option Fetch) (r : Option ReaderWish) → o ≡ wanted (asking_of k) → r ≡ wish_for free held o
+    → option_map wish_of r ≡ wanted (serving_with free held (asking_of k))
+wants free held k o r e f =
+    ap (λ (x : Option ReaderWish). option_map wish_of x) (f ∙ ap (wish_for free held) e) ∙ sym (wants_for free held (asking_of k))
 
 -- ---- a page is given
 
 -- it was asked for, and is held from then on
-record Takes (st : Stmt) (free held : Option ℕ) (m : Reading Found) (im : Image) : Type 0 where
+record Takes (free held : Option ℕ) (m : Reading Read) (im : Image) : Type 0 where
   asked : Asked m im
-  next : (q : Fetch) → wanted m ≡ Some q → after (left st free held m) (Handed im) ≡ left st (free_after q held) (Some (page_of q)) (after m im)
+  next : (q : Fetch) → wanted m ≡ Some q → after (serving_with free held m) (Handed im) ≡ serving_with (free_after q held) (Some (page_of q)) (after m im)
 
 freed_asks : (held : Option ℕ) (w : ReadWork) (im : Image) → (AskedFor w (Handed im) → ⊥) → AskedFor (freed held w) (Handed im) → ⊥
 freed_asks None w im h a = h a
 freed_asks (Some p) w im h a = a
 
-takes_fetched : (st : Stmt) (b : Bool) (held : Option ℕ) (q : Fetch) (k : Image → Reading Found) (im : Image) → is_child q ≡ b
-    → AskedFor (fetched b held q (λ x. latched st (Some (page_of q)) (k x))) (Handed im)
-    → Asked (asks q k) im × (after (fetched b held q (λ x. latched st (Some (page_of q)) (k x))) (Handed im) ≡ left st (free_by b held) (Some (page_of q)) (k im))
-takes_fetched st true held q k im e h = (h, refl)
-takes_fetched st false None q k im e h = (h, refl)
-takes_fetched st false (Some p) q k im e h = absurd h
+takes_fetched : (b : Bool) (held : Option ℕ) (q : Fetch) (k : Image → Reading Read) (im : Image) → is_child q ≡ b
+    → AskedFor (fetched b held q (λ x. latched (Some (page_of q)) (k x))) (Handed im)
+    → Asked (asks q k) im × (after (fetched b held q (λ x. latched (Some (page_of q)) (k x))) (Handed im) ≡ serving_with (free_by b held) (Some (page_of q)) (k im))
+unfolding serving_with
+takes_fetched true held q k im e h = (h, refl)
+takes_fetched false None q k im e h = (h, refl)
+takes_fetched false (Some p) q k im e h = absurd h
 
-asked_at : (st : Stmt) (held : Option ℕ) (m : Reading Found) (im : Image) → AskedFor (latched st held m) (Handed im) → Takes st None held m im
-unfolding latched
-asked_at st held (tells a) im h = absurd (freed_asks held _ im (λ x. x) h)
-asked_at st held (asks q k) im h =
-    let r = takes_fetched st (is_child q) held q k im refl h in
-    record { asked = r.0; next = λ p e. r.1 ∙ ap (λ (x : Fetch). left st (free_after x held) (Some (page_of x)) (k im)) (the_same e) }
-asked_at st held stops im h = absurd (freed_asks held _ im (λ x. x) h)
+asked_at : (held : Option ℕ) (m : Reading Read) (im : Image) → AskedFor (latched held m) (Handed im) → Takes None held m im
+unfolding latched serving_with
+asked_at held (tells a) im h = absurd (freed_asks held _ im (λ x. x) h)
+asked_at held (asks q k) im h =
+    let r = takes_fetched (is_child q) held q k im refl h in
+    record { asked = r.0; next = λ p e. r.1 ∙ ap (λ (x : Fetch). serving_with (free_after x held) (Some (page_of x)) (k im)) (the_same e) }
+asked_at held stops im h = absurd (freed_asks held _ im (λ x. x) h)
 
-asked_of : (st : Stmt) (free held : Option ℕ) (m : Reading Found) (im : Image) → AskedFor (left st free held m) (Handed im) → Takes st free held m im
-asked_of st None held m im h = asked_at st held m im h
-asked_of st (Some p) held m im h = absurd h
+asked_of : (free held : Option ℕ) (m : Reading Read) (im : Image) → AskedFor (serving_with free held m) (Handed im) → Takes free held m im
+unfolding serving_with
+asked_of None held m im h = asked_at held m im h
+asked_of (Some p) held m im h = absurd h
 
-pub asked : (s : Serving) (im : Image) → AskedFor (serving_of s) (Handed im) → Asked (asking_of s.asking) im
-unfolding serving_of
-asked s im h = (asked_of s.asking.statement s.free s.held (asking_of s.asking) im h).asked
+pub asked : (free held : Option ℕ) (k : Kept) (im : Image) → AskedFor (serving_with free held (asking_of k)) (Handed im) → Asked (asking_of k) im
+asked free held k im h = (asked_of free held (asking_of k) im h).asked
 
-pub takes : (s : Serving) (b : Asking) (q : Fetch) (o : Option Fetch) (p : ℕ) (f : Option ℕ) (im : Image) → AskedFor (serving_of s) (Handed im)
-    → o ≡ wanted (asking_of s.asking) → o ≡ Some q → asking_of b ≡ after (asking_of s.asking) im → b.statement ≡ s.asking.statement
-    → p ≡ page_of q → f ≡ free_after q s.held
-    → serving_of (record { asking = b; held = Some p; free = f }) ≡ after (serving_of s) (Handed im)
-unfolding serving_of
-takes s b q o p f im h w some new same page free =
-    ap (λ (st : Stmt). left st f (Some p) (asking_of b)) same
-    ∙ (ap (λ (m : Reading Found). left s.asking.statement f (Some p) m) new
-    ∙ (ap (λ (o : Option ℕ). left s.asking.statement o (Some p) (after (asking_of s.asking) im)) free
-    ∙ (ap (λ (n : ℕ). left s.asking.statement (free_after q s.held) (Some n) (after (asking_of s.asking) im)) page
-    ∙ sym ((asked_of s.asking.statement s.free s.held (asking_of s.asking) im h).next q (sym w ∙ some)))))
+pub takes : (free held : Option ℕ) (k new : Kept) (q : Fetch) (o : Option Fetch) (p : ℕ) (f : Option ℕ) (im : Image)
+    → AskedFor (serving_with free held (asking_of k)) (Handed im) → o ≡ wanted (asking_of k) → o ≡ Some q → asking_of new ≡ after (asking_of k) im
+    → p ≡ page_of q → f ≡ free_after q held
+    → serving_with f (Some p) (asking_of new) ≡ after (serving_with free held (asking_of k)) (Handed im)
+takes free held k new q o p f im h w some next page left =
+    ap (λ (m : Reading Read). serving_with f (Some p) m) next
+    ∙ (ap (λ (x : Option ℕ). serving_with x (Some p) (after (asking_of k) im)) left
+    ∙ (ap (λ (n : ℕ). serving_with (free_after q held) (Some n) (after (asking_of k) im)) page
+    ∙ sym ((asked_of free held (asking_of k) im h).next q (sym w ∙ some))))
 
-no_page : (m : Reading Found) (im : Image) → Asked m im → wanted m ≡ None → ⊥
+no_page : (m : Reading Read) (im : Image) → Asked m im → wanted m ≡ None → ⊥
 no_page (tells a) im h e = h
 no_page (asks q k) im h e = nothing (sym e)
 no_page stops im h e = h
 
-pub not_none : (s : Serving) (o : Option Fetch) (im : Image) → AskedFor (serving_of s) (Handed im) → o ≡ wanted (asking_of s.asking) → o ≡ None → ⊥
-not_none s o im h w none = no_page (asking_of s.asking) im (asked s im h) (sym w ∙ none)
+pub not_none : (free held : Option ℕ) (k : Kept) (o : Option Fetch) (im : Image) → AskedFor (serving_with free held (asking_of k)) (Handed im)
+    → o ≡ wanted (asking_of k) → o ≡ None → ⊥
+not_none free held k o im h w none = no_page (asking_of k) im (asked free held k im h) (sym w ∙ none)
 
 -- ---- no stamp is asked for
 
@@ -125,15 +118,15 @@ fetched_stamps : (b : Bool) (held : Option ℕ) (q : Fetch) (k : Image → ReadW
 fetched_stamps true held q k n h = h
 fetched_stamps false held q k n h = freed_stamps held _ n (λ x. x) h
 
-latched_stamps : (st : Stmt) (held : Option ℕ) (m : Reading Found) (n : ℕ) → AskedFor (latched st held m) (Stamped n) → ⊥
+latched_stamps : (held : Option ℕ) (m : Reading Read) (n : ℕ) → AskedFor (latched held m) (Stamped n) → ⊥
 unfolding latched
-latched_stamps st held (tells a) n h = freed_stamps held _ n (λ x. x) h
-latched_stamps st held (asks q k) n h = fetched_stamps (is_child q) held q _ n h
-latched_stamps st held stops n h = freed_stamps held _ n (λ x. x) h
+latched_stamps held (tells a) n h = freed_stamps held _ n (λ x. x) h
+latched_stamps held (asks q k) n h = fetched_stamps (is_child q) held q _ n h
+latched_stamps held stops n h = freed_stamps held _ n (λ x. x) h
 
-pub no_stamp : (s : Serving) (n : ℕ) → AskedFor (serving_of s) (Stamped n) → ⊥
-unfolding serving_of
-no_stamp s n h = freed_stamps s.free _ n (latched_stamps s.asking.statement s.held (asking_of s.asking) n) h
+pub no_stamp : (free held : Option ℕ) (k : Kept) (n : ℕ) → AskedFor (serving_with free held (asking_of k)) (Stamped n) → ⊥
+unfolding serving_with
+no_stamp free held k n h = freed_stamps free _ n (latched_stamps held (asking_of k) n) h
 
 -- ---- a release
 
@@ -150,21 +143,23 @@ freed_end : (held : Option ℕ) (w : ReadWork) → (AskedFor w Made → ⊥) →
 freed_end None w h a = absurd (h a)
 freed_end (Some p) w h a = refl
 
-freed_held : (st : Stmt) (held : Option ℕ) (m : Reading Found) → AskedFor (latched st held m) Made → after (latched st held m) Made ≡ latched st None m
+freed_held : (held : Option ℕ) (m : Reading Read) → AskedFor (latched held m) Made → after (latched held m) Made ≡ latched None m
 unfolding latched
-freed_held st held (tells a) h = freed_end held _ (λ x. x) h
-freed_held st held (asks q k) h = freed_fetched (is_child q) held q _ h
-freed_held st held stops h = freed_end held _ (λ x. x) h
+freed_held held (tells a) h = freed_end held _ (λ x. x) h
+freed_held held (asks q k) h = freed_fetched (is_child q) held q _ h
+freed_held held stops h = freed_end held _ (λ x. x) h
 
-pub frees_first : (s : Serving) (p : ℕ) → s.free ≡ Some p → serving_of (record { asking = s.asking; held = s.held; free = None }) ≡ after (serving_of s) Made
-unfolding serving_of
-frees_first s p e = ap (λ (o : Option ℕ). after (left s.asking.statement o s.held (asking_of s.asking)) Made) (sym e)
+pub frees_first : (free held : Option ℕ) (k : Kept) (p : ℕ) → free ≡ Some p
+    → serving_with None held (asking_of k) ≡ after (serving_with free held (asking_of k)) Made
+unfolding serving_with
+frees_first free held k p e = ap (λ (o : Option ℕ). after (serving_with o held (asking_of k)) Made) (sym e)
 
-pub frees_held : (s : Serving) → AskedFor (serving_of s) Made → s.free ≡ None → serving_of (record { asking = s.asking; held = None; free = None }) ≡ after (serving_of s) Made
-unfolding serving_of
-frees_held s a e =
-    let P : Option ℕ → Type 0 = λ o. AskedFor (left s.asking.statement o s.held (asking_of s.asking)) Made in
-    sym (freed_held s.asking.statement s.held (asking_of s.asking) (subst P e a)) ∙ ap (λ (o : Option ℕ). after (left s.asking.statement o s.held (asking_of s.asking)) Made) (sym e)
+pub frees_held : (free held : Option ℕ) (k : Kept) → AskedFor (serving_with free held (asking_of k)) Made → free ≡ None
+    → serving_with None None (asking_of k) ≡ after (serving_with free held (asking_of k)) Made
+unfolding serving_with
+frees_held free held k a e =
+    let P : Option ℕ → Type 0 = λ o. AskedFor (serving_with o held (asking_of k)) Made in
+    sym (freed_held held (asking_of k) (subst P e a)) ∙ ap (λ (o : Option ℕ). after (serving_with o held (asking_of k)) Made) (sym e)
 
 -- ---- the end
 
@@ -175,27 +170,18 @@ freed_none (Some p) w e = absurd (nothing (sym e))
 fetched_none : {A : Type 0} (b : Bool) (held : Option ℕ) (q : Fetch) (n : Image → ReadWork) → wanted (fetched b held q n) ≡ None → A
 fetched_none b held q n e = absurd (nothing (sym e ∙ wants_fetched b held q n))
 
-done_at : (st : Stmt) (held : Option ℕ) (m : Reading Found) → wanted (latched st held m) ≡ None → (f : Found) → told m ≡ Some f
-    → latched st held m ≡ tells (works.Found (record { statement = st; found = f }))
+done_at : (held : Option ℕ) (m : Reading Read) → wanted (latched held m) ≡ None → (r : Read) → told m ≡ Some r → latched held m ≡ tells (works.Found r)
 unfolding latched
-done_at st held (tells a) e f t = freed_none held _ e ∙ ap (λ (x : Found). tells (works.Found (record { statement = st; found = x }))) (the_same t)
-done_at st held (asks q k) e f t = absurd (nothing t)
-done_at st held stops e f t = absurd (nothing t)
+done_at held (tells a) e r t = freed_none held _ e ∙ ap (λ (x : Read). tells (works.Found x)) (the_same t)
+done_at held (asks q k) e r t = absurd (nothing t)
+done_at held stops e r t = absurd (nothing t)
 
-done_of : (st : Stmt) (free held : Option ℕ) (m : Reading Found) → wanted (left st free held m) ≡ None → (f : Found) → told m ≡ Some f
-    → left st free held m ≡ tells (works.Found (record { statement = st; found = f }))
-done_of st None held m e f t = done_at st held m e f t
-done_of st (Some p) held m e f t = absurd (nothing (sym e))
+done_of : (free held : Option ℕ) (m : Reading Read) → wanted (serving_with free held m) ≡ None → (r : Read) → told m ≡ Some r
+    → serving_with free held m ≡ tells (works.Found r)
+unfolding serving_with
+done_of None held m e r t = done_at held m e r t
+done_of (Some p) held m e r t = absurd (nothing (sym e))
 
-read_told : (st : Stmt) (o : Option Found) (read : Read) → Some read ≡ option_map (λ f. record { statement = st; found = f }) o
-    → (o ≡ Some read.found) × (read ≡ record { statement = st; found = read.found })
-read_told st None read e = absurd (nothing (sym e))
-read_told st (Some f) read e =
-    let same : read ≡ record { statement = st; found = f } = the_same e in
-    (ap (λ (x : Read). Some x.found) (sym same), same ∙ ap (λ (x : Found). record { statement = st; found = x }) (sym (ap (λ (x : Read). x.found) same)))
-
-pub tells_read : (s : Serving) (read : Read) → wanted (serving_of s) ≡ None → Some read ≡ read_of s.asking → TellsRead (serving_of s) read
-unfolding serving_of
-tells_read s read e r =
-    let t = read_told s.asking.statement (told (asking_of s.asking)) read r in
-    done_of s.asking.statement s.free s.held (asking_of s.asking) e read.found t.0 ∙ ap (λ (x : Read). tells (works.Found x)) (sym t.1)
+pub tells_read : (free held : Option ℕ) (k : Kept) (o : Option Read) (r : Read) → wanted (serving_with free held (asking_of k)) ≡ None
+    → o ≡ told (asking_of k) → o ≡ Some r → TellsRead (serving_with free held (asking_of k)) r
+tells_read free held k o r e told some = done_of free held (asking_of k) e r (sym told ∙ some)

@@ -8,8 +8,9 @@ use Rattle.sql_database.specs.declared.replies.SqlReply.TheVariants as reply
 use Rattle.sql_database.specs.Statements.{IsEvaluated, is_select}
 use Rattle.question_tree.specs.Questions.{Ask, tells, asks, stops, wanted, after}
 use Rattle.range_reader.specs.declared.fetch.Fetch.{Fetch}
-use Rattle.statement_reader.specs.Question.{question}
-use Rattle.statement_reader.specs.Spelling.{decoder}
+use Rattle.statement_reader.specs.declared.asking.Read.{Read}
+use Rattle.statement_reader.specs.Kept.{Kept, asking_of}
+use Rattle.statement_reader.specs.Reads as statement
 use Rattle.statement_work.specs.declared.acts.Act.{Act}
 use Rattle.statement_work.specs.declared.acts.Act.TheVariants as act
 use Rattle.statement_work.specs.Works as works
@@ -18,7 +19,6 @@ use Rattle.statement_work.specs.Acting.{Does, Goes, Grants, anew, is_calm, pool_
 use Rattle.statement_work.specs.Replies.{EndsInReply}
 use Rattle.statement_work.proofs.WorkLaws.{does_wish, ends_after, not_anew}
 use Rattle.statement_work.proofs.WorkLaws as works_laws
-use Rattle.ro_worker.specs.declared.asking.Read.{Read}
 use Rattle.ro_worker.specs.declared.kinds.StatementKind.{StatementKind}
 use Rattle.ro_worker.specs.declared.kinds.StatementKind.TheVariants as kind
 use Rattle.ro_worker.specs.declared.latching.ReaderWish.{ReaderWish}
@@ -26,12 +26,11 @@ use Rattle.ro_worker.specs.declared.serving.Serving.{Serving}
 use Rattle.ro_worker.specs.declared.turns.State.{State}
 use Rattle.ro_worker.specs.declared.turns.State.TheVariants as state
 use Rattle.ro_worker.specs.declared.turns.Turn.{Turn}
-use Rattle.ro_worker.specs.Asking.{Asking, asking_of}
 use Rattle.ro_worker.specs.Kinds.{kind_of}
 use Rattle.ro_worker.specs.Reads.{IsReplyTo}
 use Rattle.ro_worker.specs.Wishes.{reads_only, wish_of}
 use Rattle.ro_worker.specs.Serving.{ReadWork, freed, latched, reads, ro_undoes}
-use Rattle.ro_worker.specs.States.{Comes, IsBegun, serving_of, state_of}
+use Rattle.ro_worker.specs.States.{Comes, serving_of, serving_with, state_of}
 use Rattle.ro_worker.specs.WorkerLaws.{latched_ends, reads_end}
 
 nothing : {A : Type 0} {a : A} → None ≡ Some a → ⊥
@@ -93,11 +92,10 @@ the_kind st k e s = sym e ∙ s
 pub same_work : {E : Type 0} (r : Result Turn E) (v w : ReadWork) → v ≡ w → IfOk r (Comes v) → IfOk r (Comes w)
 same_work r v w e h = let P : ReadWork → Type 0 = λ x. IfOk r (Comes x) in subst P e h
 
-pub begun : {E : Type 0} (r : Result Turn E) (a : Asking) (s : Serving) (st : Stmt) (own : Option ℕ) (n : ℕ)
-    → asking_of a ≡ question decoder (record { stamp = n; own = own }) st → a.statement ≡ st → IsBegun a s
+pub begun : {E : Type 0} (r : Result Turn E) (k : Kept) (s : Serving) (st : Stmt) (own : Option ℕ) (n : ℕ)
+    → asking_of k ≡ statement.reads (record { stamp = n; own = own }) st → serving_of s ≡ latched None (asking_of k)
     → IfOk r (Comes (serving_of s)) → IfOk r (Comes (reads st own n))
-begun r a s st own n e f g h =
-    same_work r (serving_of s) (reads st own n) (g ∙ (ap (λ (x : Stmt). latched x None (asking_of a)) f ∙ ap (latched st None) e)) h
+begun r k s st own n e g h = same_work r (serving_of s) (reads st own n) (g ∙ ap (latched None) e) h
 
 -- ---- a full pool
 
@@ -129,8 +127,8 @@ freed_ends None w h = h
 freed_ends (Some p) w h = λ x. h
 
 serving_ends : (s : Serving) → EndsInReply (serving_of s)
-unfolding serving_of
-serving_ends s = freed_ends s.free _ (latched_ends s.asking.statement s.held (asking_of s.asking))
+unfolding serving_with
+serving_ends s = freed_ends s.free _ (latched_ends s.held (asking_of s.asking))
 
 state_ends : (s : State) → EndsInReply (state_of s)
 state_ends state.Idle = tt

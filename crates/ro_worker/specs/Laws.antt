@@ -3,12 +3,9 @@ use Rattle.std.specs.Prelude.{◌≡◌, true, List, []}
 use Rattle.sql_database.specs.Statements.{is_select, is_write}
 use Rattle.sql_database.specs.declared.replies.SqlReply.{SqlReply}
 use Rattle.sql_database.specs.declared.replies.SqlReply.TheVariants as reply
-use Rattle.sql_exec.specs.Answer.{Answers, ComesFrom}
 use Rattle.sql_exec.specs.declared.outcomes.Outcome.{Outcome}
 use Rattle.sql_exec.specs.declared.outcomes.Outcome.TheVariants as outcome
-use Rattle.statement_reader.specs.declared.tables.Found.{Found}
-use Rattle.statement_reader.specs.Answered.{StatementFound}
-use Rattle.statement_reader.specs.Spelling.{decoder}
+use Rattle.statement_reader.specs.Reads.{IsOutcomeOver}
 use Rattle.statement_work.specs.declared.acts.Job.{Job}
 use Rattle.statement_work.specs.Works.{Input, uses}
 use Rattle.statement_work.specs.Replies.{IsReplyOver}
@@ -32,10 +29,8 @@ ChangesNothing (outcome.Refused r) = Unit {0}
 abbrev pub SelectsAreAnswered : Type 0
 SelectsAreAnswered =
     (job : Job) (xs : List Input) (r : SqlReply) → is_select job.statement ≡ true → IsServed job xs r
-    → (found : Found) × (o : Outcome)
-    × StatementFound decoder (snapshot_for job xs) job.statement (uses xs) found
-    × ComesFrom (Answers found.schemas found.rows job.statement) o × ChangesNothing o
-    × (r ≡ reply_for o)
+    → (o : Outcome) × IsOutcomeOver (snapshot_for job xs) job.statement (uses xs) o
+    × ChangesNothing o × (r ≡ reply_for o)
 
 -- a change is refused at once, whatever stands in the pages
 abbrev pub WritesAreRefused : Type 0

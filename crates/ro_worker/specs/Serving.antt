@@ -8,15 +8,14 @@ use Rattle.question_tree.specs.Questions.{Ask, tells, asks, stops}
 use Rattle.range_reader.specs.declared.fetch.Fetch.{Fetch}
 use Rattle.range_reader.specs.declared.fetch.Snapshot.{Snapshot}
 use Rattle.range_reader.specs.Finding.{page_of}
-use Rattle.statement_reader.specs.declared.tables.Found.{Found}
-use Rattle.statement_reader.specs.Answered.{StatementFound}
-use Rattle.statement_reader.specs.Question.{Reading, question}
-use Rattle.statement_reader.specs.Spelling.{decoder}
+use Rattle.statement_reader.specs.declared.asking.Read.{Read}
+use Rattle.statement_reader.specs.Question.{Reading}
+use Rattle.statement_reader.specs.Reads as statement
+use Rattle.statement_reader.specs.Reads.{IsReadOver}
 use Rattle.statement_work.specs.declared.acts.Job.{Job}
 use Rattle.statement_work.specs.Works as works
 use Rattle.statement_work.specs.Works.{Work, Fetches, Releases, Stamps, Input, Replied, Rested, image_in, stamp_in, uses}
 use Rattle.statement_work.specs.Latches.{is_child}
-use Rattle.ro_worker.specs.declared.asking.Read.{Read}
 use Rattle.ro_worker.specs.declared.kinds.StatementKind.{StatementKind}
 use Rattle.ro_worker.specs.declared.kinds.StatementKind.TheVariants as kind
 use Rattle.ro_worker.specs.Kinds.{kind_of}
@@ -38,12 +37,10 @@ fetched false held q n = freed held (asks (Fetches false q) (λ x. n (image_in x
 
 -- A child is fetched while the page above it is held, which is released then. Every other page is fetched
 -- while nothing is held, and nothing is held at the end.
-unfoldable pub latched : Stmt → Option ℕ → Reading Found → ReadWork
-latched st held (tells a) =
-    freed held (tells (works.Found (record { statement = st; found = a })))
-latched st held (asks q k) =
-    fetched (is_child q) held q (λ im. latched st (Some (page_of q)) (k im))
-latched st held stops = freed held stops
+unfoldable pub latched : Option ℕ → Reading Read → ReadWork
+latched held (tells a) = freed held (tells (works.Found a))
+latched held (asks q k) = fetched (is_child q) held q (λ im. latched (Some (page_of q)) (k im))
+latched held stops = freed held stops
 
 -- ---- statements
 
@@ -54,7 +51,7 @@ at_stamp None k = asks Stamps (λ x. k (stamp_in x))
 
 -- a SELECT reads what it needs at its snapshot
 abbrev pub reads : Stmt → Option ℕ → ℕ → ReadWork
-reads st own n = latched st None (question decoder (record { stamp = n; own = own }) st)
+reads st own n = latched None (statement.reads (record { stamp = n; own = own }) st)
 
 abbrev pub begun : ℕ → ReadWork
 begun n = tells (Replied (reply.Ok 0))
@@ -95,6 +92,4 @@ snapshot_for job xs = record { stamp = stamp_for job.snapshot xs; own = job.trx 
 
 -- what it read is found at its snapshot, over just the images that were handed in
 abbrev pub ro_finds : Job → List Input → Read → Type 0
-ro_finds job xs a =
-    (a.statement ≡ job.statement)
-    × StatementFound decoder (snapshot_for job xs) job.statement (uses xs) a.found
+ro_finds job xs a = IsReadOver (snapshot_for job xs) job.statement (uses xs) a

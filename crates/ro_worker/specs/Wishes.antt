@@ -2,10 +2,10 @@
 -- is to be released, what is held and what is wanted.
 use Rattle.std.specs.Prelude.{ℕ, Bool, true, false, Option, Some, None}
 use Rattle.range_reader.specs.declared.fetch.Fetch.{Fetch}
+use Rattle.statement_reader.specs.declared.asking.Read.{Read}
 use Rattle.statement_work.specs.Terms.{Terms}
 use Rattle.statement_work.specs.Works.{Wish, Fetches, Releases, Stamps, Work}
 use Rattle.statement_work.specs.Latches.{is_child}
-use Rattle.ro_worker.specs.declared.asking.Read.{Read}
 use Rattle.ro_worker.specs.declared.latching.ReaderWish.{ReaderWish}
 use Rattle.ro_worker.specs.declared.latching.ReaderWish.TheVariants as wish
 use Rattle.ro_worker.specs.Reads.{IsReplyTo}

@@ -11,17 +11,16 @@ use Rattle.range_reader.specs.declared.fetch.Snapshot.{Snapshot}
 use Rattle.range_reader.specs.Finding as finding
 use Rattle.range_reader.specs.Finding.{page_of}
 use Rattle.range_reader.specs.Laws.{IsOrderly}
-use Rattle.statement_reader.specs.declared.tables.Found.{Found}
-use Rattle.statement_reader.specs.Answered.{StatementFound}
-use Rattle.statement_reader.specs.Question.{Reading, question}
-use Rattle.statement_reader.specs.Spelling.{decoder}
-use Rattle.statement_reader.proofs.AnswerLaws.{tells_statement, statements_orderly}
+use Rattle.statement_reader.specs.declared.asking.Read.{Read}
+use Rattle.statement_reader.specs.Question.{Reading}
+use Rattle.statement_reader.specs.Reads as statement
+use Rattle.statement_reader.specs.Reads.{IsReadOver}
+use Rattle.statement_reader.proofs.KeptLaws.{tells_read, reads_orderly}
 use Rattle.statement_work.specs.declared.acts.Job.{Job}
 use Rattle.statement_work.specs.Works as works
 use Rattle.statement_work.specs.Works.{Fetches, Releases, Stamps, Input, Handed, Stamped, Made, Told, Replied, Rested, Fits, image_in, stamp_in, uses}
 use Rattle.statement_work.specs.Latches.{IsPolite, KeepsLatches, is_child}
 use Rattle.statement_work.specs.Replies.{EndsInReply}
-use Rattle.ro_worker.specs.declared.asking.Read.{Read}
 use Rattle.ro_worker.specs.declared.kinds.StatementKind.{StatementKind}
 use Rattle.ro_worker.specs.declared.kinds.StatementKind.TheVariants as kind
 use Rattle.ro_worker.specs.Kinds.{kind_of}
@@ -38,50 +37,48 @@ freed_gives (Some p) w (Handed im ∷ xs) a h = absurd h.0
 freed_gives (Some p) w (Stamped n ∷ xs) a h = absurd h.0
 freed_gives (Some p) w (Made ∷ xs) a h = (xs, refl, h.1)
 
--- what was read, of the statement, is what the reading gives
-abbrev pub GivesRead : Stmt → Reading Found → List Image → Told Read → Type 0
-GivesRead st m us a = (f : Found) × (a ≡ works.Found (record { statement = st; found = f })) × Gives finding.Fits m us f
+-- what is told is what the reading gives
+abbrev pub GivesRead : Reading Read → List Image → Told Read → Type 0
+GivesRead m us a = (r : Read) × (a ≡ works.Found r) × Gives finding.Fits m us r
 
-abbrev tells_found : Stmt → Found → ReadWork
-tells_found st f = tells (works.Found (record { statement = st; found = f }))
+abbrev tells_found : Read → ReadWork
+tells_found r = tells (works.Found r)
 
 abbrev tells_reply : SqlReply → ReadWork
 tells_reply r = tells (Replied r)
 
-told_gives : (st : Stmt) (f : Found) (ys : List Input) (a : Told Read) → Gives Fits (tells_found st f) ys a
-    → GivesRead st (tells f) (uses ys) a
-told_gives st f [] a h = (f, sym h, refl)
-told_gives st f (y ∷ ys) a h = absurd h
+told_gives : (r : Read) (ys : List Input) (a : Told Read) → Gives Fits (tells_found r) ys a → GivesRead (tells r) (uses ys) a
+told_gives r [] a h = (r, sym h, refl)
+told_gives r (y ∷ ys) a h = absurd h
 
-ask_gives : (st : Stmt) (b : Bool) (held : Option ℕ) (q : Fetch) (k : Image → Reading Found) (n : Image → ReadWork) (xs : List Input) (a : Told Read)
-    → ((im : Image) (ys : List Input) → Gives Fits (n im) ys a → GivesRead st (k im) (uses ys) a)
-    → Gives Fits (fetched b held q n) xs a → GivesRead st (asks q k) (uses xs) a
-ask_gives st true held q k n [] a rec h = absurd h
-ask_gives st true held q k n (Stamped m ∷ xs) a rec h = absurd h.0
-ask_gives st true held q k n (Made ∷ xs) a rec h = absurd h.0
-ask_gives st true held q k n (Handed im ∷ xs) a rec h =
+ask_gives : (b : Bool) (held : Option ℕ) (q : Fetch) (k : Image → Reading Read) (n : Image → ReadWork) (xs : List Input) (a : Told Read)
+    → ((im : Image) (ys : List Input) → Gives Fits (n im) ys a → GivesRead (k im) (uses ys) a)
+    → Gives Fits (fetched b held q n) xs a → GivesRead (asks q k) (uses xs) a
+ask_gives true held q k n [] a rec h = absurd h
+ask_gives true held q k n (Stamped m ∷ xs) a rec h = absurd h.0
+ask_gives true held q k n (Made ∷ xs) a rec h = absurd h.0
+ask_gives true held q k n (Handed im ∷ xs) a rec h =
     let r = freed_gives held (n im) xs a h.1 in
     let g = rec im r.0 r.2 in
     (g.0, g.1, (h.0, subst (λ (us : List Image). Gives finding.Fits (k im) us g.0) (sym r.1) g.2))
-ask_gives st false held q k n xs a rec h =
+ask_gives false held q k n xs a rec h =
     let r = freed_gives held _ xs a h in
-    subst (λ (us : List Image). GivesRead st (asks q k) us a) (sym r.1) (go r.0 r.2)
+    subst (λ (us : List Image). GivesRead (asks q k) us a) (sym r.1) (go r.0 r.2)
   where
-    go : (ys : List Input) → Gives Fits (asks (Fetches false q) (λ x. n (image_in x))) ys a → GivesRead st (asks q k) (uses ys) a
+    go : (ys : List Input) → Gives Fits (asks (Fetches false q) (λ x. n (image_in x))) ys a → GivesRead (asks q k) (uses ys) a
     go [] g = absurd g
     go (Stamped m ∷ zs) g = absurd g.0
     go (Made ∷ zs) g = absurd g.0
     go (Handed im ∷ zs) g = let r = rec im zs g.1 in (r.0, r.1, (g.0, r.2))
 
-pub latched_gives : (st : Stmt) (held : Option ℕ) (m : Reading Found) (xs : List Input) (a : Told Read) → Gives Fits (latched st held m) xs a
-    → GivesRead st m (uses xs) a
+pub latched_gives : (held : Option ℕ) (m : Reading Read) (xs : List Input) (a : Told Read) → Gives Fits (latched held m) xs a → GivesRead m (uses xs) a
 unfolding latched
-latched_gives st held (tells f) xs a h =
-    let r = freed_gives held (tells_found st f) xs a h in
-    subst (λ (us : List Image). GivesRead st (tells f) us a) (sym r.1) (told_gives st f r.0 a r.2)
-latched_gives st held (asks q k) xs a h =
-    ask_gives st (is_child q) held q k (λ im. latched st (Some (page_of q)) (k im)) xs a (λ im ys g. latched_gives st (Some (page_of q)) (k im) ys a g) h
-latched_gives st held stops xs a h = let r = freed_gives held stops xs a h in absurd r.2
+latched_gives held (tells r) xs a h =
+    let g = freed_gives held (tells_found r) xs a h in
+    subst (λ (us : List Image). GivesRead (tells r) us a) (sym g.1) (told_gives r g.0 a g.2)
+latched_gives held (asks q k) xs a h =
+    ask_gives (is_child q) held q k (λ im. latched (Some (page_of q)) (k im)) xs a (λ im ys g. latched_gives (Some (page_of q)) (k im) ys a g) h
+latched_gives held stops xs a h = let r = freed_gives held stops xs a h in absurd r.2
 
 same_told : {a b : Read} → works.Found a ≡ works.Found b → a ≡ b
 same_told e = cc
@@ -89,25 +86,20 @@ same_told e = cc
 replied_found : (r : SqlReply) (a : Read) → Replied r ≡ works.Found a → ⊥
 replied_found r a e = cc
 
-found_at : (st : Stmt) (s : Snapshot) (us : List Image) (a : Read) → GivesRead st (question decoder s st) us (works.Found a)
-    → (a.statement ≡ st) × StatementFound decoder s st us a.found
-found_at st s us a (f, e, g) =
-    let same : a ≡ record { statement = st; found = f } = same_told e in (
-      ap (λ (x : Read). x.statement) same,
-      subst (λ (x : Found). StatementFound decoder s st us x) (sym (ap (λ (x : Read). x.found) same)) (tells_statement decoder s st us f g),
-    )
+found_at : (st : Stmt) (s : Snapshot) (us : List Image) (a : Read) → GivesRead (statement.reads s st) us (works.Found a) → IsReadOver s st us a
+found_at st s us a (r, e, g) = tells_read s st us a (subst (λ (x : Read). Gives finding.Fits (statement.reads s st) us x) (sym (same_told e)) g)
 
 no_reply : (r : SqlReply) (xs : List Input) (a : Read) → Gives Fits (tells_reply r) xs (works.Found a) → ⊥
 no_reply r [] a h = replied_found r a h
 no_reply r (x ∷ xs) a h = h
 
 select_right : (snapshot own : Option ℕ) (st : Stmt) (xs : List Input) (a : Read) → Gives Fits (at_stamp snapshot (reads st own)) xs (works.Found a)
-    → (a.statement ≡ st) × StatementFound decoder (record { stamp = stamp_for snapshot xs; own = own }) st (uses xs) a.found
-select_right (Some n) own st xs a h = found_at st _ (uses xs) a (latched_gives st None (question decoder (record { stamp = n; own = own }) st) xs (works.Found a) h)
+    → IsReadOver (record { stamp = stamp_for snapshot xs; own = own }) st (uses xs) a
+select_right (Some n) own st xs a h = found_at st _ (uses xs) a (latched_gives None (statement.reads (record { stamp = n; own = own }) st) xs (works.Found a) h)
 select_right None own st [] a h = absurd h
 select_right None own st (Handed im ∷ xs) a h = absurd h.0
 select_right None own st (Made ∷ xs) a h = absurd h.0
-select_right None own st (Stamped n ∷ xs) a h = found_at st _ (uses xs) a (latched_gives st None (question decoder (record { stamp = n; own = own }) st) xs (works.Found a) h.1)
+select_right None own st (Stamped n ∷ xs) a h = found_at st _ (uses xs) a (latched_gives None (statement.reads (record { stamp = n; own = own }) st) xs (works.Found a) h.1)
 
 begin_right : (lasting : Bool) (snapshot : Option ℕ) (xs : List Input) (a : Read) → Gives Fits (begins lasting snapshot) xs (works.Found a) → ⊥
 begin_right true snapshot xs a h = no_reply _ xs a h
@@ -134,18 +126,18 @@ ask_ends : (b : Bool) (held : Option ℕ) (q : Fetch) (n : Image → ReadWork) �
 ask_ends true held q n h = λ x. freed_ends held (n (image_in x)) (h (image_in x))
 ask_ends false held q n h = freed_ends held _ (λ x. h (image_in x))
 
-pub latched_ends : (st : Stmt) (held : Option ℕ) (m : Reading Found) → EndsInReply (latched st held m)
+pub latched_ends : (held : Option ℕ) (m : Reading Read) → EndsInReply (latched held m)
 unfolding latched
-latched_ends st held (tells a) = freed_ends held _ tt
-latched_ends st held (asks q k) = ask_ends (is_child q) held q _ (λ im. latched_ends st (Some (page_of q)) (k im))
-latched_ends st held stops = freed_ends held stops tt
+latched_ends held (tells a) = freed_ends held _ tt
+latched_ends held (asks q k) = ask_ends (is_child q) held q _ (λ im. latched_ends (Some (page_of q)) (k im))
+latched_ends held stops = freed_ends held stops tt
 
 at_ends : (snapshot : Option ℕ) (k : ℕ → ReadWork) → ((n : ℕ) → EndsInReply (k n)) → EndsInReply (at_stamp snapshot k)
 at_ends (Some n) k h = h n
 at_ends None k h = λ x. h (stamp_in x)
 
 pub reads_end : (st : Stmt) (own : Option ℕ) (n : ℕ) → EndsInReply (reads st own n)
-reads_end st own n = latched_ends st None (question decoder (record { stamp = n; own = own }) st)
+reads_end st own n = latched_ends None (statement.reads (record { stamp = n; own = own }) st)
 
 begins_end : (lasting : Bool) (snapshot : Option ℕ) → EndsInReply (begins lasting snapshot)
 begins_end true snapshot = tt
@@ -170,21 +162,21 @@ freed_all : (held : Option ℕ) (w : ReadWork) → IsPolite [] w → IsPolite (o
 freed_all None w h = h
 freed_all (Some p) w h = ([], refl, h)
 
-pub polite_from : (st : Stmt) (held : Option ℕ) (c : Bool) (m : Reading Found) → (c ≡ true → IsSome held) → IsOrderly c m
-    → IsPolite (option_to_list held) (latched st held m)
+pub polite_from : (held : Option ℕ) (c : Bool) (m : Reading Read) → (c ≡ true → IsSome held) → IsOrderly c m
+    → IsPolite (option_to_list held) (latched held m)
 unfolding latched
-polite_from st held c (tells a) s o = freed_all held _ refl
-polite_from st None c (asks (fetch.Child p) k) s o = absurd (nothing (s o.0))
+polite_from held c (tells a) s o = freed_all held _ refl
+polite_from None c (asks (fetch.Child p) k) s o = absurd (nothing (s o.0))
   where
     nothing : false ≡ true → ⊥
     nothing q = cc
-polite_from st (Some h) c (asks (fetch.Child p) k) s o =
-    ((h, refl), λ im. (p ∷ [], refl, polite_from st (Some p) true (k im) (λ _. refl) (o.1 im)))
-polite_from st held c (asks (fetch.Root p) k) s o = freed_all held _ (refl, λ im. polite_from st (Some p) true (k im) (λ _. refl) (o im))
-polite_from st held c (asks (fetch.Next p) k) s o = freed_all held _ (refl, λ im. polite_from st (Some p) false (k im) (λ _. refl) (o im))
-polite_from st held c (asks (fetch.Stamps p) k) s o = freed_all held _ (refl, λ im. polite_from st (Some p) false (k im) (λ _. refl) (o im))
-polite_from st held c (asks (fetch.Undo p) k) s o = freed_all held _ (refl, λ im. polite_from st (Some p) false (k im) (λ _. refl) (o im))
-polite_from st held c stops s o = freed_all held stops tt
+polite_from (Some h) c (asks (fetch.Child p) k) s o =
+    ((h, refl), λ im. (p ∷ [], refl, polite_from (Some p) true (k im) (λ _. refl) (o.1 im)))
+polite_from held c (asks (fetch.Root p) k) s o = freed_all held _ (refl, λ im. polite_from (Some p) true (k im) (λ _. refl) (o im))
+polite_from held c (asks (fetch.Next p) k) s o = freed_all held _ (refl, λ im. polite_from (Some p) false (k im) (λ _. refl) (o im))
+polite_from held c (asks (fetch.Stamps p) k) s o = freed_all held _ (refl, λ im. polite_from (Some p) false (k im) (λ _. refl) (o im))
+polite_from held c (asks (fetch.Undo p) k) s o = freed_all held _ (refl, λ im. polite_from (Some p) false (k im) (λ _. refl) (o im))
+polite_from held c stops s o = freed_all held stops tt
 
 at_polite : (snapshot : Option ℕ) (k : ℕ → ReadWork) → ((n : ℕ) → IsPolite [] (k n)) → IsPolite [] (at_stamp snapshot k)
 at_polite (Some n) k h = h n
@@ -192,7 +184,7 @@ at_polite None k h = (refl, λ n. h n)
 
 reads_polite : (st : Stmt) (own : Option ℕ) (n : ℕ) → IsPolite [] (reads st own n)
 reads_polite st own n =
-    polite_from st None false (question decoder (record { stamp = n; own = own }) st) (λ e. absurd (apart e)) (statements_orderly decoder _ st false)
+    polite_from None false (statement.reads (record { stamp = n; own = own }) st) (λ e. absurd (apart e)) (reads_orderly _ st false)
   where
     apart : false ≡ true → ⊥
     apart q = cc

@@ -1,7 +1,6 @@
 //! The worker of a node that only reads.
 #![tactic(auto)]
 
-mod asking;
 mod kinds;
 mod latching;
 mod laws;
@@ -11,7 +10,6 @@ mod turns;
 mod waiting;
 mod worker;
 
-pub use asking::{AskingReader, Read};
 pub use kinds::StatementKind;
 pub use laws::{answer_laws, latch_law};
 pub use worker::RoWorker;

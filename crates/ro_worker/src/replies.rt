@@ -5,10 +5,10 @@ ghost use Rattle.ro_worker.specs.Reads as spec;
 ghost use Rattle.ro_worker.specs.Reads.{IsReplyTo};
 ghost use Rattle.ro_worker.specs.Serving as serving;
 
-use crate::asking::Read;
 use rm_base::WantOfMemory;
 use sql_database::SqlReply;
-use sql_exec::{Outcome, eval};
+use sql_exec::Outcome;
+use statement_reader::Read;
 use std::alloc::Global;
 
 fn reply_for(outcome: Outcome) -> SqlReply
@@ -28,13 +28,7 @@ pub(crate) fn reply_to(alloc: Global, read: &Read) -> Result<SqlReply, WantOfMem
     requires { IsEvaluated read.now.statement }
     ensures { IfOk result (IsReplyTo read.now) }
 {
-    let outcome = eval(
-        alloc,
-        &read.statement,
-        &read.found.schemas,
-        &read.found.rows,
-    )?;
-    Ok(reply_for(outcome))
+    Ok(reply_for(read.outcome(alloc)?))
 }
 
 /// What is replied to COMMIT and ROLLBACK: no transaction of a reader has changed anything.

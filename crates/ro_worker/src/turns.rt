@@ -9,7 +9,6 @@ ghost use Rattle.ro_worker.specs.declared.kinds.StatementKind.TheVariants as sta
 ghost use Rattle.ro_worker.specs.Serving as spec;
 ghost use Rattle.ro_worker.specs.States.{Comes, serving_of, state_of};
 
-use crate::asking::AskingReader;
 use crate::kinds::{StatementKind, kind_of};
 use crate::latching::ReaderWish;
 use crate::replies::{ended, reply_to};
@@ -19,6 +18,7 @@ use page_image::Page;
 use range_reader::Snapshot;
 use rm_base::{Stamp, WantOfMemory};
 use sql_database::SqlReply;
+use statement_reader::AskingReader;
 use statement_work::{Given, Job, Obstacle};
 use std::alloc::Global;
 
@@ -43,7 +43,7 @@ pub(crate) enum Turn {
 pub(crate) fn give_up(_before: State) {}
 
 /// Where nothing is wanted any more, the statement is answered.
-#[tactic(auto, using(crate::proofs::TurnLaws::answers))]
+#[tactic(auto, using(crate::proofs::TurnLaws::answers, crate::proofs::TurnLaws::evaluated))]
 fn answered(alloc: Global, serving: Serving) -> Result<Turn, WantOfMemory>
     requires { wanted (serving_of serving) ≡ None }
     ensures { IfOk result (Comes (serving_of serving)) }
@@ -68,7 +68,7 @@ fn reached(alloc: Global, serving: Serving) -> Result<Turn, WantOfMemory>
 }
 
 /// A SELECT begins at its snapshot.
-#[tactic(auto, using(crate::proofs::TurnLaws::evaluated, crate::proofs::TurnLaws::begun))]
+#[tactic(auto, using(crate::proofs::SelectLaws::begun_selects, crate::proofs::TurnLaws::begun))]
 fn read(alloc: Global, waiting: Waiting, stamp: Stamp) -> Result<Turn, WantOfMemory>
     ensures { IfOk result (Comes (spec.reads waiting.statement waiting.own stamp)) }
 {

@@ -3,7 +3,7 @@ ghost use Rattle.std.specs.Prelude.{◌≡◌, true};
 ghost use Rattle.question_tree.specs.Questions.{stops};
 ghost use Rattle.ro_worker.specs.Serving.{ro_finds, ro_serves, ro_undoes};
 ghost use Rattle.ro_worker.specs.Wishes.{reads_only};
-ghost use Rattle.ro_worker.specs.States.{state_of};
+ghost use Rattle.ro_worker.specs.States.{work_of};
 ghost use Rattle.ro_worker.specs.WorkerLaws.{ro_ends, ro_polite, ro_polite_undoing, ro_right};
 
 use crate::turns::{State, Turn, give_up, told};
@@ -20,7 +20,9 @@ pub struct RoWorker {
 
 impl RoWorker {
     /// It serves nothing yet.
-    pub fn new() -> RoWorker {
+    pub fn new() -> RoWorker
+        ensures { work_of result ≡ stops }
+    {
         RoWorker { state: State::Idle }
     }
 }
@@ -28,7 +30,7 @@ impl RoWorker {
 impl Worker for RoWorker {
     ghost terms = { reads_only };
 
-    ghost work = { λ w. state_of w.state };
+    ghost work = { work_of };
 
     ghost serves = { ro_serves };
 
