@@ -1,0 +1,10 @@
+pub mod DeskLaws
+pub mod EndLaws
+pub mod HearLaws
+pub mod LedgerSteps
+pub mod PlanLaws
+pub mod PoolLaws
+pub mod RecordLaws
+pub mod TakeLaws
+pub mod TurnLaws
+pub mod WorkLaws

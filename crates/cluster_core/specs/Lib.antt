@@ -1,0 +1,7 @@
+pub mod Desks
+pub mod Ledgers
+pub mod Pools
+pub mod Recording
+pub mod Stages
+pub mod Taking
+pub mod Turns
