@@ -2,6 +2,7 @@ pub mod DeskLaws
 pub mod EndLaws
 pub mod HearLaws
 pub mod LedgerSteps
+pub mod LedgerTells
 pub mod PlanLaws
 pub mod PoolLaws
 pub mod RecordLaws

@@ -1,4 +1,5 @@
 pub mod Desks
+pub mod LedgerLaws
 pub mod Ledgers
 pub mod Pools
 pub mod Recording

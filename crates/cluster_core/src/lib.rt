@@ -7,6 +7,7 @@ mod desks;
 mod ending;
 mod fetching;
 mod hearing;
+mod laws;
 mod ledger;
 mod recording;
 mod running;
@@ -16,6 +17,7 @@ mod waiting;
 mod working;
 
 pub use desks::{Task, may_work, task_turn};
+pub use laws::ledger_laws;
 pub use ledger::Ledger;
 pub use recording::Purpose;
 pub use stages::{Report, Stage, Turned};
