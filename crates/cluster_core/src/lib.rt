@@ -13,6 +13,8 @@ mod recording;
 mod running;
 mod stages;
 mod taking;
+#[cfg(test)]
+mod tests;
 mod waiting;
 mod working;
 
