@@ -30,18 +30,19 @@ submit_is_told language m a s row text read t g up there =
 
 pub snap_is_told : (language : Language) → SnapIsTold language
 snap_is_told language m a s t may =
-    let h = snap_tells language m (table_of a) s t.table may in
-    (h.0, record {
-      table = subst (λ (x : ℕ). Tells language (move.snapped m s) (with_row (table_of a) s (row.snapped x))) (sym t.published) h.1;
-      published = t.published;
-    })
+    let h = snap_tells language m (table_of a) s t.table may in (
+      h.0,
+      record {
+        table = subst (λ (x : ℕ). Tells language (move.snapped m s) (with_row (table_of a) s (row.snapped x))) (sym t.published) h.1;
+        published = t.published;
+      },
+    )
 
 pub exec_is_told : (language : Language) → ExecIsTold language
 exec_is_told language m new a s t h = record {
   table = exec_tells language m new (table_of a) s t.table h;
   published = t.published ∙ sym (ap (λ (x : Machine). x.count) h.4);
 }
-
 
 pub enqueue_is_told : (language : Language) → EnqueueIsTold language
 enqueue_is_told language m new a s end t h =
