@@ -84,22 +84,22 @@ lets_rests n p met s mid h v e = elim h [
 ]
 
 pub runs_beside : (t : Terms) (undoes : ℕ → Work t) (n : ℕ) (a : Action) (answer : PoolAnswer) (s mid : PoolState) (w : Work t)
-    → Steps (Act n a how.Made) answer s mid → RunsAfter t undoes n s w → RunsNow t undoes mid w
+    → Steps (Act n a how.Made) answer s mid → RunsAfter t undoes n s w → RunsNow t undoes n mid w
 unfolding RunsAfter RunsNow
-runs_beside t undoes n a answer s mid w h r = λ x asked. r x asked mid (inr (a, answer, h))
+runs_beside t undoes n a answer s mid w h r = λ x asked given. r x asked mid (inr (a, answer, h)) given
 
 pub runs_let : (t : Terms) (undoes : ℕ → Work t) (n p : ℕ) (met : Bool) (s mid : PoolState) (w : Work t)
-    → Lets n p met s mid → RunsAfter t undoes n s w → RunsNow t undoes mid w
+    → Lets n p met s mid → RunsAfter t undoes n s w → RunsNow t undoes n mid w
 unfolding RunsAfter RunsNow Lets
 runs_let t undoes n p met s mid w h r = elim h [
-  | inl g ↦ λ x asked. r x asked mid (inl g.0)
-  | inr g ↦ λ x asked. r x asked mid (inr (action.Release p, g.0, g.1))
+  | inl g ↦ λ x asked given. r x asked mid (inl g.0) given
+  | inr g ↦ λ x asked given. r x asked mid (inr (action.Release p, g.0, g.1)) given
 ]
 
-pub ran_beside : (t : Terms) (undoes : ℕ → Work t) (s : PoolState) (w : Work t) → RunsNow t undoes s w → AskedFor w Made
+pub ran_beside : (t : Terms) (undoes : ℕ → Work t) (n : ℕ) (s : PoolState) (w : Work t) → RunsNow t undoes n s w → AskedFor w Made
     → PlansRun t s (anew undoes (after w Made))
 unfolding RunsNow
-ran_beside t undoes s w h a = h Made a
+ran_beside t undoes n s w h a = h Made a tt
 
 no_reply : (d : Deed) (r : SqlReply) → act.Do d ≡ act.Reply r → ⊥
 no_reply d r e = cc

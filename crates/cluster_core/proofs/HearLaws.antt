@@ -149,10 +149,13 @@ asked_there t n p s w im e a =
     let there = image_there ((s.node n).handed p) im (sym e) in
     subst (λ (x : Image). AskedFor w (works.Handed x)) there.2 (a there.0 there.1)
 
-pub run_there : (t : Terms) (undoes : ℕ → Work t) (s : PoolState) (w : Work t) (im : Image) → AskedFor w (works.Handed im) → RunsNow t undoes s w
+pub run_there : (t : Terms) (undoes : ℕ → Work t) (n p : ℕ) (s : PoolState) (w : Work t) (im : Image)
+    → Some im ≡ option_map (λ (h : nodes.Handed). h.image) ((s.node n).handed p) → AskedFor w (works.Handed im) → RunsNow t undoes n s w
     → PlansRun t s (anew undoes (after w (works.Handed im)))
 unfolding RunsNow
-run_there t undoes s w im a h = h (works.Handed im) a
+run_there t undoes n p s w im e a h =
+    let there = image_there ((s.node n).handed p) im (sym e) in
+    h (works.Handed im) a (p, there.0, there.1, sym there.2)
 
 some_same : {A : Type 0} (x y : A) → Some x ≡ Some y → x ≡ y
 some_same x y e = cc

@@ -42,9 +42,9 @@ pub on_stands : (t : Terms) (w : Work t) (node : NodeState) (installed : Bool) �
     → Stands t w node (Running installed)
 on_stands t w node installed b h = (h.0, h.1, elim h.2 [ inl e ↦ e | inr e ↦ absurd (busy_rests node.job b e) ])
 
-pub ran : (t : Terms) (undoes : ℕ → Work t) (s : PoolState) (w : Work t) → RunsNow t undoes s w → AskedFor w Made → PlansRun t s (anew undoes (after w Made))
+pub ran : (t : Terms) (undoes : ℕ → Work t) (n : ℕ) (s : PoolState) (w : Work t) → RunsNow t undoes n s w → AskedFor w Made → PlansRun t s (anew undoes (after w Made))
 unfolding RunsNow
-ran t undoes s w h a = h Made a
+ran t undoes n s w h a = h Made a tt
 
 pub plan_busy : (t : Terms) (w : Work t) (node : NodeState) (installed : Bool) → Stands t w node (Running installed) → is_busy node.job ≡ true
 plan_busy t w node installed h = ap is_busy h.2

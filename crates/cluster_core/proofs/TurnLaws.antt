@@ -150,13 +150,13 @@ still_stands t w p x y Resting e f h = absurd (none_some p e)
 
 -- what is asked for and run then, and here
 pub runs_then : (t : Terms) (undoes : ℕ → Work t) (n : ℕ) (o : Option Outcome) (s mid : PoolState) (w : Work t) → Acts n o s mid
-    → RunsAfter t undoes n s w → RunsNow t undoes mid w
+    → RunsAfter t undoes n s w → RunsNow t undoes n mid w
 unfolding RunsAfter RunsNow Acts
-runs_then t undoes n o s mid w a h = λ x asked. h x asked mid (inr (a.0, a.1, a.4))
+runs_then t undoes n o s mid w a h = λ x asked given. h x asked mid (inr (a.0, a.1, a.4)) given
 
-pub runs_here : (t : Terms) (undoes : ℕ → Work t) (n : ℕ) (s : PoolState) (w : Work t) → RunsAfter t undoes n s w → RunsNow t undoes s w
+pub runs_here : (t : Terms) (undoes : ℕ → Work t) (n : ℕ) (s : PoolState) (w : Work t) → RunsAfter t undoes n s w → RunsNow t undoes n s w
 unfolding RunsAfter RunsNow
-runs_here t undoes n s w h = λ x asked. h x asked s (inl refl)
+runs_here t undoes n s w h = λ x asked given. h x asked s (inl refl) given
 
 pub asks_then : (t : Terms) (n p : ℕ) (o : Option Outcome) (s mid : PoolState) (w : Work t) → Acts n o s mid → HandsAsked t n p s w → AsksOver t n p mid w
 unfolding HandsAsked AsksOver AsksNow Acts

@@ -63,4 +63,4 @@ sure_turns t undoes n p stamp q stage w new s now turned h e f =
 pub stamp_runs : (t : Terms) (undoes : ℕ → Work t) (n stamp : ℕ) (w : Work t) (s : PoolState) (stage : Stage) → IsReady t undoes n w s stage
     → AskedFor w (Stamped stamp) → PlansRun t s (anew undoes (after w (Stamped stamp)))
 unfolding RunsAfter
-stamp_runs t undoes n stamp w s stage h a = h.plans (Stamped stamp) a s (inl refl)
+stamp_runs t undoes n stamp w s stage h a = h.plans (Stamped stamp) a s (inl refl) tt

@@ -6,7 +6,7 @@ use Rattle.range_reader.specs.Finding.{page_of}
 use Rattle.statement_work.specs.declared.acts.Act.TheVariants as act
 use Rattle.statement_work.specs.declared.acts.Deed.TheVariants as deed
 use Rattle.statement_work.specs.Terms.{Terms}
-use Rattle.statement_work.specs.Works.{Work, Input, Handed, AskedFor}
+use Rattle.statement_work.specs.Works.{Work, Input, Handed, Stamped, Made, AskedFor}
 use Rattle.statement_work.specs.Acting.{Does, anew}
 use Rattle.statement_work.specs.Latches.{number_of}
 use Rattle.page_pool.specs.Nodes as nodes
@@ -76,10 +76,16 @@ Becomes n s mid = (mid ≡ s) ⊎ ((action : Action) × (answer : PoolAnswer) ×
 unfoldable pub RunsAgain : (t : Terms) → ℕ → PoolState → Work t → Type 0
 RunsAgain t n s w = (mid : PoolState) → Becomes n s mid → PlansRun t mid w
 
+-- a page that is given is one that was handed out
+abbrev pub IsGiven : NodeState → Input → Type 0
+IsGiven node (Handed im) = (p : ℕ) × (h : nodes.Handed) × (node.handed p ≡ Some h) × (im ≡ h.image)
+IsGiven node (Stamped stamp) = Unit {0}
+IsGiven node Made = Unit {0}
+
 -- what is given can be taken at any such time, and plans that the work wants then can be run
 unfoldable pub RunsAfter : (t : Terms) → (ℕ → Work t) → ℕ → PoolState → Work t → Type 0
 RunsAfter t undoes n s w =
-    (x : Input) → AskedFor w x → (mid : PoolState) → Becomes n s mid → PlansRun t mid (anew undoes (after w x))
+    (x : Input) → AskedFor w x → (mid : PoolState) → Becomes n s mid → IsGiven (mid.node n) x → PlansRun t mid (anew undoes (after w x))
 
 -- a page that is handed out then is one that the work asks for
 unfoldable pub HandsAsked : (t : Terms) → ℕ → ℕ → PoolState → Work t → Type 0
@@ -95,8 +101,8 @@ AsksNow t n p s w = (h : nodes.Handed) → (s.node n).handed p ≡ Some h → As
 unfoldable pub AsksOver : (t : Terms) → ℕ → ℕ → PoolState → Work t → Type 0
 AsksOver t n p s w = (s.node n).job ≡ Rests → AsksNow t n p s w
 
-unfoldable pub RunsNow : (t : Terms) → (ℕ → Work t) → PoolState → Work t → Type 0
-RunsNow t undoes s w = (x : Input) → AskedFor w x → PlansRun t s (anew undoes (after w x))
+unfoldable pub RunsNow : (t : Terms) → (ℕ → Work t) → ℕ → PoolState → Work t → Type 0
+RunsNow t undoes n s w = (x : Input) → AskedFor w x → IsGiven (s.node n) x → PlansRun t s (anew undoes (after w x))
 
 -- what is under way does not wait for an answer
 abbrev pub IsUnderWay : NodeState → Type 0

@@ -28,7 +28,7 @@ fn fetch_goes<P: PagePool, W: Worker>(
     requires fetched { IsFetched page ((P.state pool.old).node n) }
     requires stands { Stands W.terms (W.work worker.old) ((P.state pool.old).node n) stage }
     requires asks { AsksOver W.terms n page (P.state pool.old) (W.work worker.old) }
-    requires plans { RunsNow W.terms W.undoes (P.state pool.old) (W.work worker.old) }
+    requires plans { RunsNow W.terms W.undoes n (P.state pool.old) (W.work worker.old) }
     ensures goes { IfOk result (λ turned. FetchGoes W.terms W.undoes n page stage (W.work worker.old)
         (P.state pool.old) (P.state pool.new) (W.work worker.new) turned) }
     ensures serves { OnOk result (IsServing n (P.state pool.new)) }

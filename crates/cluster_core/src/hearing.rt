@@ -115,7 +115,7 @@ pub(crate) fn hand<P: PagePool, W: Worker>(
     requires free { ((P.state pool.old).node n).job ≡ Rests }
     requires there { IsSome (((P.state pool.old).node n).handed page) }
     requires asked { AsksNow W.terms n page (P.state pool.old) (W.work worker.old) }
-    requires plans { RunsNow W.terms W.undoes (P.state pool.old) (W.work worker.old) }
+    requires plans { RunsNow W.terms W.undoes n (P.state pool.old) (W.work worker.old) }
     ensures hands { IfOk result (λ turned. Hands W.terms W.undoes n page (W.work worker.old)
         (P.state pool.old) (P.state pool.new) (W.work worker.new) turned) }
     ensures serves { OnOk result (IsServing n (P.state pool.new)) }

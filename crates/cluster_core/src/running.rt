@@ -77,7 +77,7 @@ fn plan_goes<P: PagePool, W: Worker>(
     requires serves { IsServing n (P.state pool.old) }
     requires planned { IsPlanned W.terms (W.work worker.old) ((P.state pool.old).node n) installed }
     requires asked { AskedFor (W.work worker.old) works.Made }
-    requires plans { RunsNow W.terms W.undoes (P.state pool.old) (W.work worker.old) }
+    requires plans { RunsNow W.terms W.undoes n (P.state pool.old) (W.work worker.old) }
     ensures goes { IfOk result (λ turned. PlanGoes W.terms W.undoes n installed report (W.work worker.old)
         (P.state pool.old) (P.state pool.new) (W.work worker.new) turned) }
     ensures serves { OnOk result (IsServing n (P.state pool.new)) }
